@@ -1,0 +1,131 @@
+-- The start, by the differences of neighbours and with nested floors, as the code reckons it.
+use mathlib.Core.Path.{_≡_, sym, ap, ap₂, _∙_}
+use mathlib.Core.Bool.{true, _&&_}
+use Prim.Native.Nat.{ℕ, _+_, _*_, _^_}
+use lib.IntN.{ℤ, pos, _+ℤ_, _-ℤ_, _*ℤ_}
+use lib.Pow.{pow-pos, pow-add}
+use lib.Signed.{shrZ}
+use Rattle.numbers.proofs.Ring.{Ex, #, _:+_, _:-_, _:*_, ring}
+use Rattle.numbers.proofs.Floor.{floor-plus, floor-floor}
+use Rattle.numbers.proofs.Size.{Size}
+use Rattle.numbers.proofs.Tests.{and-true}
+use Rattle.rules.specs.Rules.{isCoordinate, areNeighbours}
+use Rattle.rules.proofs.Laws.{coordinate-size, neighbours-size}
+use Rattle.engine.specs.declared.Control.{Control}
+use Rattle.engine.specs.declared.Registers.{Registers}
+use Rattle.engine.specs.Curve.{curve}
+use Rattle.engine.specs.Registers.{_>>_, unit, startRegisters}
+use Rattle.engine.specs.Start.{areCoordinates, areNear}
+
+-- ---- lawful control points
+
+pub record Points (p : Control) : Type 0 where
+  pub p0 : Size (p .p0) 16384
+  pub p1 : Size (p .p1) 16384
+  pub p2 : Size (p .p2) 16384
+  pub p3 : Size (p .p3) 16384
+
+pub points : (p : Control) → areCoordinates p ≡ true → Points p
+unfolding areCoordinates
+points p e =
+    let c0 = isCoordinate (p .p0) in
+    let c1 = isCoordinate (p .p1) in
+    let c2 = isCoordinate (p .p2) in
+    let c3 = isCoordinate (p .p3) in
+    let three = and-true (c0 && c1 && c2) c3 e in
+    let two = and-true (c0 && c1) c2 (three .0) in
+    let one = and-true c0 c1 (two .0) in
+    record {
+      p0 = coordinate-size (p .p0) (one .0);
+      p1 = coordinate-size (p .p1) (one .1);
+      p2 = coordinate-size (p .p2) (two .1);
+      p3 = coordinate-size (p .p3) (three .1);
+    }
+
+pub record Steps (p : Control) : Type 0 where
+  pub first : Size (p .p1 -ℤ p .p0) 682
+  pub second : Size (p .p2 -ℤ p .p1) 682
+  pub third : Size (p .p3 -ℤ p .p2) 682
+
+pub steps : (p : Control) → areNear p ≡ true → Steps p
+unfolding areNear
+steps p e =
+    let n1 = areNeighbours (p .p0) (p .p1) in
+    let n2 = areNeighbours (p .p1) (p .p2) in
+    let n3 = areNeighbours (p .p2) (p .p3) in
+    let two = and-true (n1 && n2) n3 e in
+    let one = and-true n1 n2 (two .0) in
+    record {
+      first = neighbours-size (p .p0) (p .p1) (one .0);
+      second = neighbours-size (p .p1) (p .p2) (one .1);
+      third = neighbours-size (p .p2) (p .p3) (two .1);
+    }
+
+-- ---- the registers
+
+-- 65,536·A, 65,536·B and 65,536·C by the differences
+abbrev pub cubic : Control → ℤ
+cubic p = unit *ℤ ((p .p3 -ℤ p .p2) -ℤ pos 2 *ℤ (p .p2 -ℤ p .p1) +ℤ (p .p1 -ℤ p .p0))
+
+abbrev pub square : Control → ℤ
+square p = unit *ℤ (pos 3 *ℤ ((p .p2 -ℤ p .p1) -ℤ (p .p1 -ℤ p .p0)))
+
+abbrev pub linear : Control → ℤ
+linear p = unit *ℤ (pos 3 *ℤ (p .p1 -ℤ p .p0))
+
+abbrev pub reckoned : ℕ → Control → Registers
+reckoned n p =
+    record {
+      a = (pos 6 *ℤ cubic p) >> n;
+      b = ((pos 6 *ℤ cubic p) >> n) +ℤ pos 2 *ℤ square p;
+      c = linear p +ℤ ((square p +ℤ (cubic p >> n)) >> n);
+      d = unit *ℤ p .p0;
+    }
+
+-- the same as expressions, and A and B
+abbrev cubicE : Ex → Ex → Ex → Ex → Ex
+cubicE p0 p1 p2 p3 = # 65536 :* ((p3 :- p2) :- # 2 :* (p2 :- p1) :+ (p1 :- p0))
+
+abbrev squareE : Ex → Ex → Ex → Ex
+squareE p0 p1 p2 = # 65536 :* (# 3 :* ((p2 :- p1) :- (p1 :- p0)))
+
+abbrev thirdE : Ex → Ex → Ex → Ex → Ex
+thirdE p0 p1 p2 p3 = p3 :- # 3 :* p2 :+ # 3 :* p1 :- p0
+
+abbrev secondE : Ex → Ex → Ex → Ex
+secondE p0 p1 p2 = # 3 :* (p2 :- # 2 :* p1 :+ p0)
+
+-- two floors by 2^n are one by 2^(2n)
+nested : (n : ℕ) (l s k : ℤ) → l +ℤ ((s +ℤ (k >> n)) >> n) ≡ (pos (2 ^ n) *ℤ (pos (2 ^ n) *ℤ l +ℤ s) +ℤ k) >> (n + n)
+nested n l s k =
+    let m = 2 ^ n in
+    sym (floor-plus l (s +ℤ shrZ k m) m (pow-pos n))
+    ∙ ap (λ (z : ℤ). shrZ z m) (ring 4 (λ m l s k. (m :* l :+ (s :+ k), m :* l :+ s :+ k)) tt (pos m) l s (shrZ k m)
+    ∙ sym (floor-plus (pos m *ℤ l +ℤ s) k m (pow-pos n)))
+    ∙ floor-floor (pos m *ℤ (pos m *ℤ l +ℤ s) +ℤ k) m m (pow-pos n) (pow-pos n)
+    ∙ ap (λ (j : ℕ). shrZ (pos m *ℤ (pos m *ℤ l +ℤ s) +ℤ k) j) (sym (pow-add 2 n n))
+
+pub reckoned-start : (n : ℕ) (p : Control) → reckoned n p ≡ startRegisters n (curve p)
+unfolding startRegisters curve
+reckoned-start n p =
+    λ i. record {
+      a = six-cubic i >> n;
+      b = (six-cubic i >> n) +ℤ two-square i;
+      c = (nested n (linear p) (square p) (cubic p) ∙ ap (λ (z : ℤ). z >> (n + n)) whole) i;
+      d = unit *ℤ p .p0;
+    }
+  where
+    six-cubic : pos 6 *ℤ cubic p ≡ unit *ℤ (pos 6 *ℤ curve p .A)
+    six-cubic = ring 4 (λ p0 p1 p2 p3. (# 6 :* cubicE p0 p1 p2 p3, # 65536 :* (# 6 :* thirdE p0 p1 p2 p3))) tt (p .p0) (p .p1) (p .p2) (p .p3)
+
+    two-square : pos 2 *ℤ square p ≡ unit *ℤ (pos 2 *ℤ curve p .B)
+    two-square = ring 3 (λ p0 p1 p2. (# 2 :* squareE p0 p1 p2, # 65536 :* (# 2 :* secondE p0 p1 p2))) tt (p .p0) (p .p1) (p .p2)
+
+    whole : pos (2 ^ n) *ℤ (pos (2 ^ n) *ℤ linear p +ℤ square p) +ℤ cubic p
+        ≡ unit *ℤ (curve p .C *ℤ pos (2 ^ (n + n)) +ℤ curve p .B *ℤ pos (2 ^ n) +ℤ curve p .A)
+    whole =
+        rw (pow-add 2 n n)
+        (ring 5 (λ m p0 p1 p2 p3. (
+          m :* (m :* (# 65536 :* (# 3 :* (p1 :- p0))) :+ squareE p0 p1 p2) :+ cubicE p0 p1 p2 p3,
+          # 65536 :* (# 3 :* (p1 :- p0) :* (m :* m) :+ secondE p0 p1 p2 :* m :+ thirdE p0 p1 p2 p3),
+        )) tt (pos (2 ^ n)) (p .p0) (p .p1) (p .p2) (p .p3))

@@ -1,0 +1,49 @@
+use mathlib.Core.Path.{_≡_, sym, _∙_}
+use Prim.Native.Nat.{_+_, _-_, _≤_}
+use borrow.Author.Needs.{needs}
+use borrow.Author.Tests.{ltb-true}
+use Rattle.engine.specs.Registers.{double}
+use Rattle.engine.specs.Drawing.{callRefusal, turned, landed}
+use Rattle.engine.proofs.Gates.{Open, call-opens, call-refused, call-landed, kept-rule}
+use Rattle.engine.proofs.Drawing.double.Statement.{statement}
+use Rattle.engine.proofs.Drawing.double.Tie as tie
+
+double-refusal-requires : tie.Need-double-refusal-requires
+double-refusal-requires c κs = search needs
+
+returns : tie.Need-returns
+returns c = call-refused 11 double (c .before .before .args .self) (c .before .double-refusal .ensures) (c .if1 .taken)
+
+passes : (c : tie.Else1) → callRefusal 11 double (c .before .before .args .self .level) (c .before .before .args .self .q) ≡ 0
+passes c = sym (c .before .double-refusal .ensures) ∙ c .if1 .left
+
+low : (c : tie.Else1) → c .before .before .args .self .level ≤ 11
+low c = call-opens 11 double _ _ (passes c) .0 .inside .level
+
+double-one-requires : tie.Need-double-one-requires
+double-one-requires c κs = low c
+
+double-one-requires-2 : tie.Need-double-one-requires-2
+double-one-requires-2 c κs = low (c .before)
+
+sub-land : tie.Need-sub-land
+sub-land c =
+    let e = kept-rule _ _ _ (call-opens 11 double _ _ (passes (c .before .before)) .1) in
+    ltb-true _ _ (e .0)
+
+land-requires : tie.Need-land-requires
+land-requires c κs = search needs
+
+returns-2 : tie.Need-returns-2
+unfolding turned
+returns-2 c =
+    let d = c .before .before .before .before .before .args .self in
+    let x = c .before .before .double-one .ensures in
+    let y = c .before .double-one2 .ensures in
+    c .land .ensures
+    ∙ (λ i. landed d (record { level = d .level - 1; q = d .q; x = x i; y = y i }))
+    ∙ sym (call-landed 11 double d (passes (c .before .before .before)))
+
+pub double-spec : {M : Type 1} → statement M
+double-spec =
+    tie.close (tie.spec double-refusal-requires returns double-one-requires double-one-requires-2 sub-land land-requires returns-2)

@@ -1,0 +1,47 @@
+use mathlib.Core.Path.{_≡_, sym, _∙_}
+use Prim.Native.Nat.{_+_, _-_, _≤_}
+use native.Mathlib.Omega.{arith}
+use borrow.Author.Needs.{needs}
+use Rattle.engine.specs.Registers.{halve}
+use Rattle.engine.specs.Drawing.{callRefusal, turned, landed}
+use Rattle.engine.proofs.Gates.{Open, call-opens, call-refused, call-landed}
+use Rattle.engine.proofs.Drawing.halve.Statement.{statement}
+use Rattle.engine.proofs.Drawing.halve.Tie as tie
+
+halve-refusal-requires : tie.Need-halve-refusal-requires
+halve-refusal-requires c κs = search needs
+
+returns : tie.Need-returns
+returns c = call-refused 11 halve (c .before .before .args .self) (c .before .halve-refusal .ensures) (c .if1 .taken)
+
+passes : (c : tie.Else1) → callRefusal 11 halve (c .before .before .args .self .level) (c .before .before .args .self .q) ≡ 0
+passes c = sym (c .before .halve-refusal .ensures) ∙ c .if1 .left
+
+low : (c : tie.Else1) → c .before .before .args .self .level ≤ 11
+low c = call-opens 11 halve _ _ (passes c) .0 .inside .level
+
+halve-one-requires : tie.Need-halve-one-requires
+halve-one-requires c κs = low c
+
+halve-one-requires-2 : tie.Need-halve-one-requires-2
+halve-one-requires-2 c κs = low (c .before)
+
+add-land : tie.Need-add-land
+add-land c = omega (arith, low (c .before .before))
+
+land-requires : tie.Need-land-requires
+land-requires c κs = search needs
+
+returns-2 : tie.Need-returns-2
+unfolding turned
+returns-2 c =
+    let d = c .before .before .before .before .before .args .self in
+    let x = c .before .before .halve-one .ensures in
+    let y = c .before .halve-one2 .ensures in
+    c .land .ensures
+    ∙ (λ i. landed d (record { level = d .level + 1; q = d .q; x = x i; y = y i }))
+    ∙ sym (call-landed 11 halve d (passes (c .before .before .before)))
+
+pub halve-spec : {M : Type 1} → statement M
+halve-spec =
+    tie.close (tie.spec halve-refusal-requires returns halve-one-requires halve-one-requires-2 add-land land-requires returns-2)

@@ -1,0 +1,53 @@
+use mathlib.Core.Path.{_≡_, sym, _∙_}
+use Prim.Native.Nat.{_≤_}
+use borrow.Author.Needs.{needs}
+use Rattle.engine.specs.Choice.{choiceRefusal, choice, chosen}
+use Rattle.engine.proofs.Gates.{choice-refused, choice-opens}
+use Rattle.engine.proofs.Drawing.next.Statement.{statement}
+use Rattle.engine.proofs.Drawing.next.Tie as tie
+
+choice-refusal-requires : tie.Need-choice-refusal-requires
+choice-refusal-requires c κs = search needs
+
+returns : tie.Need-returns
+returns c =
+    let s = c .before .before in
+    choice-refused 11 (s .args .upper) (s .args .lower) (s .args .self) (c .before .choice-refusal .ensures) (c .if1 .taken)
+
+passes : (c : tie.Else1) → choiceRefusal 11 (c .before .before .args .upper) (c .before .before .args .lower) (c .before .before .args .self .level) (c .before .before .args .self .q) ≡ 0
+passes c = sym (c .before .choice-refusal .ensures) ∙ c .if1 .left
+
+low : (c : tie.Else1) → c .before .before .args .self .level ≤ 11
+low c = choice-opens 11 (c .before .before .args .upper) (c .before .before .args .lower) _ _ (passes c) .1 .inside .level
+
+wants-halve-requires : tie.Need-wants-halve-requires
+wants-halve-requires c κs = low c
+
+returns-2 : tie.Need-returns-2
+unfolding choice chosen
+returns-2 c = simp (passes (c .before .before), sym (c .before .wants-halve .ensures) ∙ c .if2 .taken)
+
+wants-double-requires : tie.Need-wants-double-requires
+wants-double-requires c κs = low (c .before .before)
+
+returns-3 : tie.Need-returns-3
+unfolding choice chosen
+returns-3 c =
+    simp (passes (c .before .before .before .before), sym (c .before .before .before .wants-halve .ensures) ∙ c .before .before .if2 .left, sym (c .before .wants-double .ensures) ∙ c .if3 .taken)
+
+returns-4 : tie.Need-returns-4
+unfolding choice chosen
+returns-4 c =
+    simp (passes (c .before .before .before .before), sym (c .before .before .before .wants-halve .ensures) ∙ c .before .before .if2 .left, sym (c .before .wants-double .ensures) ∙ c .if3 .left)
+
+pub next-spec : {M : Type 1} → statement M
+next-spec =
+    tie.close
+    (tie.spec
+    choice-refusal-requires
+    returns
+    wants-halve-requires
+    returns-2
+    wants-double-requires
+    returns-3
+    returns-4)

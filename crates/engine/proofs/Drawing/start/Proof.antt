@@ -1,0 +1,44 @@
+use mathlib.Core.Path.{_≡_, sym, _∙_}
+use borrow.Author.Needs.{needs}
+use Rattle.engine.specs.Start.{startRefusal}
+use Rattle.engine.proofs.Gates.{Accepted, accepted, start-refused, start-begins}
+use Rattle.engine.proofs.Drawing.start.Statement.{statement}
+use Rattle.engine.proofs.Drawing.start.Tie as tie
+
+start-refusal-requires : tie.Need-start-refusal-requires
+start-refusal-requires c κs = search needs
+
+nothing-requires : tie.Need-nothing-requires
+nothing-requires c κs = search needs
+
+returns : tie.Need-returns
+returns c =
+    let s = c .before .before .before in
+    (λ i. record { refusal = c .before .before .start-refusal .result; drawing = c .nothing .ensures i })
+    ∙ start-refused 11 (s .args .x) (s .args .y) (s .args .level) (c .before .before .start-refusal .ensures) (c .before .if1 .taken)
+
+passes : (c : tie.Else1) → startRefusal 11 (c .before .before .args .x) (c .before .before .args .y) (c .before .before .args .level) ≡ 0
+passes c = sym (c .before .start-refusal .ensures) ∙ c .if1 .left
+
+ok : (c : tie.Else1) → Accepted 11 (c .before .before .args .x) (c .before .before .args .y) (c .before .before .args .level)
+ok c = accepted 11 _ _ _ (passes c)
+
+start-one-requires : tie.Need-start-one-requires
+start-one-requires c κs = (ok c .level, ok c .x .coordinates, ok c .x .near)
+
+start-one-requires-2 : tie.Need-start-one-requires-2
+start-one-requires-2 c κs = let k = ok (c .before) in (k .level, k .y .coordinates, k .y .near)
+
+returns-2 : tie.Need-returns-2
+returns-2 c =
+    let s = c .before .before .before .before in
+    (λ i. record {
+      refusal = 0;
+      drawing = record { level = s .args .level; q = 0; x = c .before .start-one .ensures i; y = c .start-one2 .ensures i };
+    })
+    ∙ sym (start-begins 11 (s .args .x) (s .args .y) (s .args .level) (passes (c .before .before)))
+
+pub start-spec : {M : Type 1} → statement M
+start-spec =
+    tie.close
+    (tie.spec start-refusal-requires nothing-requires returns start-one-requires start-one-requires-2 returns-2)

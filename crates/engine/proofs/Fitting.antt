@@ -1,0 +1,87 @@
+-- Four numbers of 32 bits, as registers and control points are, and what the machine holds of them.
+use mathlib.Core.Path.{_≡_, ap}
+use mathlib.Core.Bool.{true, _&&_}
+use Prim.Native.Nat.{ℕ, _+_, _^_, _<_}
+use native.Mathlib.Omega.{arith}
+use lib.IntN.{ℤ, pos, negsuc}
+use lib.Dec.{leb}
+use lib.Pow.{pow-pos}
+use lib.Signed.{mag}
+use mir.Syntax.{w32, w64}
+use mir.Val.{SFits, toZ, ofZ}
+use borrow.Author.Tests.{leb-true}
+use Rattle.numbers.proofs.Machine.{Num, fits-size, reads-back, widens}
+use Rattle.numbers.proofs.Size.{Size, size-sum, size-shift}
+use Rattle.numbers.proofs.Tests.{and-true}
+use Rattle.engine.specs.declared.Registers.{Registers}
+use Rattle.engine.specs.declared.Wide.{Wide}
+use Rattle.engine.specs.Registers.{double, turn}
+use Rattle.engine.specs.Drawing.{isRegister, areRegisters}
+use Rattle.engine.specs.Wide.{narrowed}
+
+pub record Fitting (p q r s : ℤ) : Type 0 where
+  pub a : SFits w32 p
+  pub b : SFits w32 q
+  pub c : SFits w32 r
+  pub d : SFits w32 s
+
+abbrev pub Fits32 : Registers → Type 0
+Fits32 r = Fitting (r .a) (r .b) (r .c) (r .d)
+
+-- as the borrow checker tells it of a struct of four such numbers
+pub told : {p q r s : ℤ} {A B C D E : Type 0}
+    → ((A × (mag p < 2 ^ 31)) × ((B × (mag q < 2 ^ 31)) × ((C × (mag r < 2 ^ 31)) × ((D × (mag s < 2 ^ 31)) × E))))
+    → Fitting p q r s
+told t =
+    record {
+      a = record { sfits = t .0 .1 };
+      b = record { sfits = t .1 .0 .1 };
+      c = record { sfits = t .1 .1 .0 .1 };
+      d = record { sfits = t .1 .1 .1 .0 .1 };
+    }
+
+register-fits : (z : ℤ) → isRegister z ≡ true → SFits w32 z
+register-fits (pos n) e = record { sfits = omega (arith, leb-true n 2147483647 e) }
+register-fits (negsuc n) e =
+    record { sfits = omega (arith, leb-true n 2147483647 (and-true (leb n 2147483647) true e .0)) }
+
+-- as the test tells it
+pub registers-fit : (r : Registers) → areRegisters r ≡ true → Fits32 r
+unfolding areRegisters
+registers-fit r e =
+    let abc = and-true (isRegister (r .a) && isRegister (r .b) && isRegister (r .c)) (isRegister (r .d)) e in
+    let ab = and-true (isRegister (r .a) && isRegister (r .b)) (isRegister (r .c)) (abc .0) in
+    let aa = and-true (isRegister (r .a)) (isRegister (r .b)) (ab .0) in
+    record {
+      a = register-fits (r .a) (aa .0);
+      b = register-fits (r .b) (aa .1);
+      c = register-fits (r .c) (ab .1);
+      d = register-fits (r .d) (abc .1);
+    }
+
+-- the widened registers, as the machine holds them
+pub record Widened (w : Wide) (r : Registers) : Type 0 where
+  pub a : Num 2147483648 (r .a)
+  pub b : Num 2147483648 (r .b)
+  pub c : Num 2147483648 (r .c)
+  pub d : Num 2147483648 (r .d)
+
+abbrev held : (v : ℤ) {z : ℤ} → SFits w32 z → v ≡ z → Num 2147483648 z
+held v f e = record { machine = toZ w64 (ofZ w64 v); is = reads-back e (widens f); small = fits-size f }
+
+abbrev pub widened : (w : Wide) (r : Registers) → Fits32 r → narrowed w ≡ r → Widened w r
+widened w r f e =
+    record {
+      a = held (w .a) (f .a) (ap (λ (s : Registers). s .a) e);
+      b = held (w .b) (f .b) (ap (λ (s : Registers). s .b) e);
+      c = held (w .c) (f .c) (ap (λ (s : Registers). s .c) e);
+      d = held (w .d) (f .d) (ap (λ (s : Registers). s .d) e);
+    }
+
+-- the doubled c
+pub doubled-size : (n : ℕ) (r : Registers) → Fits32 r → Size (turn double n r .c) 4294967296
+unfolding turn
+doubled-size n r f = size-sum (fits-size (f .c)) (size-shift (2 ^ (n + 1)) (pow-pos (n + 1)) (fits-size (f .b)))
+
+abbrev pub doubled-c : (n : ℕ) (r : Registers) → Fits32 r → (v : ℤ) → v ≡ turn double n r .c → Num 4294967296 (turn double n r .c)
+doubled-c n r f v e = record { machine = v; is = e; small = doubled-size n r f }

@@ -1,0 +1,51 @@
+use mathlib.Core.Path.{_≡_, sym, _∙_}
+use mathlib.Core.Bool.{true}
+use Prim.Native.Nat.{_≤_, _-_}
+use native.Mathlib.Omega.{arith}
+use lib.Dec.{ltb}
+use lib.Pow.{pow-pos}
+use borrow.Author.Needs.{needs}
+use borrow.Author.Tests.{lt-ltb, eq-eqb, ne-eqb}
+use Rattle.engine.specs.Drawing.{callRefusal, gated}
+use Rattle.engine.proofs.Gates.{gate-shut, gate-open, opens, two-strides}
+use Rattle.engine.proofs.double_refusal.Statement.{statement}
+use Rattle.engine.proofs.double_refusal.Tie as tie
+
+gate-requires : tie.Need-gate-requires
+gate-requires c κs = search needs
+
+returns : tie.Need-returns
+unfolding callRefusal
+returns c = let g = c .before .gate .ensures in g ∙ sym (gate-shut _ _ _ _ (λ z. c .if1 .taken (g ∙ z)))
+
+let-through : (c : tie.Else1) → gated 11 (c .before .before .args .level) (c .before .before .args .q) 0 ≡ 0
+let-through c = sym (c .before .gate .ensures) ∙ c .if1 .left
+
+returns-2 : tie.Need-returns-2
+unfolding callRefusal
+returns-2 c = sym (gate-open _ _ _ _ (let-through (c .before)) ∙ simp (c .if2 .taken))
+
+low : (c : tie.Else2) → c .before .before .before .args .level ≤ 11
+low c = opens _ _ _ _ (let-through (c .before)) .0 .inside .level
+
+above : (c : tie.Else2) → ltb 0 (c .before .before .before .args .level) ≡ true
+above c = lt-ltb 0 (c .before .before .before .args .level) (omega (arith, c .if2 .left))
+
+shr-if3 : tie.Need-shr-if3
+shr-if3 c = omega (arith, low c)
+
+rem-if3 : tie.Need-rem-if3
+rem-if3 c = rw (two-strides _ (low c)) (omega (arith, pow-pos (11 - c .before .before .before .args .level)))
+
+returns-3 : tie.Need-returns-3
+unfolding callRefusal
+returns-3 c =
+    sym (gate-open _ _ _ _ (let-through (c .before .before)) ∙ simp (above (c .before), ← two-strides _ (low (c .before)), ne-eqb _ _ (c .if3 .taken)))
+
+returns-4 : tie.Need-returns-4
+unfolding callRefusal
+returns-4 c =
+    sym (gate-open _ _ _ _ (let-through (c .before .before)) ∙ simp (above (c .before), ← two-strides _ (low (c .before)), eq-eqb _ _ (c .if3 .left)))
+
+pub double-refusal-spec : {M : Type 1} → statement M
+double-refusal-spec = tie.close (tie.spec gate-requires returns returns-2 shr-if3 rem-if3 returns-3 returns-4)

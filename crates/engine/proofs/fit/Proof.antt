@@ -1,0 +1,11 @@
+use borrow.Author.Needs.{needs}
+use Rattle.engine.specs.Drawing.{areRegisters}
+use Rattle.engine.proofs.fit.Statement.{statement}
+use Rattle.engine.proofs.fit.Tie as tie
+
+returns : tie.Need-returns
+unfolding areRegisters
+returns c = search needs
+
+pub fit-spec : {M : Type 1} → statement M
+fit-spec = tie.close (tie.spec returns)

@@ -1,0 +1,68 @@
+-- Choosing the next operation. Increments are whole numbers of any size.
+use mathlib.Core.Bool.{Bool, cond, _&&_, _||_}
+use mathlib.Core.Option.{Option, none, some}
+use Prim.Native.Nat.{ℕ, zero, suc, _-_, _*_, _%_, _^_}
+use lib.Dec.{leb, ltb, eqb}
+use lib.IntN.{natAbs}
+use Rattle.rules.specs.Rules.{unless, areLimits}
+use Rattle.engine.specs.declared.Registers.{Registers}
+use Rattle.engine.specs.declared.Drawing.{Drawing}
+use Rattle.engine.specs.declared.Next.{Next}
+use Rattle.engine.specs.declared.Next.the-variants.{Halve, Double, Step, Refused}
+use Rattle.engine.specs.Registers.{Operation, halve, double, step, _>>_, turn}
+use Rattle.engine.specs.Drawing.{stride, gated}
+
+-- the magnitude of a coordinate's increment c >> n, and of what it would be after doubling
+unfoldable pub increment : ℕ → Registers → ℕ
+increment n r = natAbs (r .c >> n)
+
+unfoldable pub doubledIncrement : ℕ → Registers → ℕ
+doubledIncrement n r = increment (n - 1) (turn double n r)
+
+-- 1: either increment larger than upper, and level below F
+unfoldable pub wantsHalve : ℕ → ℕ → Drawing → Bool
+wantsHalve F upper d =
+    (ltb upper (increment (d .level) (d .x)) || ltb upper (increment (d .level) (d .y))) && ltb (d .level) F
+
+-- 2: both increments smaller than lower, level above 0, q a multiple of 2s, and after doubling neither increment larger than upper
+unfoldable pub wantsDouble : ℕ → ℕ → ℕ → Drawing → Bool
+wantsDouble F upper lower d =
+    ltb 0 (d .level)
+    && (ltb (increment (d .level) (d .x)) lower && ltb (increment (d .level) (d .y)) lower)
+    && eqb (d .q % (2 * stride F (d .level))) 0
+    && (leb (doubledIncrement (d .level) (d .x)) upper && leb (doubledIncrement (d .level) (d .y)) upper)
+
+-- in this order; 3: otherwise step
+unfoldable pub chosen : ℕ → ℕ → ℕ → Drawing → Operation
+chosen F upper lower d = cond (wantsHalve F upper d) halve (cond (wantsDouble F upper lower d) double step)
+
+-- 4, 10 by level and q, 5
+unfoldable pub choiceRefusal : ℕ → ℕ → ℕ → ℕ → ℕ → ℕ
+choiceRefusal F upper lower n q = unless (areLimits upper lower) 4 (gated F n q 0)
+
+-- ---- the answer, as numbers: the refusal, and the operation where there is none
+
+abbrev pub number : Operation → ℕ
+number halve = 0
+number double = 1
+number step = 2
+
+pub record Said : Type 0 where
+  pub refusal : ℕ
+  pub operation : Option ℕ
+
+abbrev pub says : Operation → Said
+says op = record { refusal = 0; operation = some (number op) }
+
+abbrev pub said : Next → Said
+said Halve = says halve
+said Double = says double
+said Step = says step
+said (Refused k) = record { refusal = k; operation = none }
+
+abbrev pub replied : ℕ → Operation → Said
+replied zero op = says op
+replied (suc k) op = record { refusal = suc k; operation = none }
+
+unfoldable pub choice : ℕ → ℕ → ℕ → Drawing → Said
+choice F upper lower d = replied (choiceRefusal F upper lower (d .level) (d .q)) (chosen F upper lower d)

@@ -1,0 +1,75 @@
+-- A drawing: level n, position q in 2^F-ths of the parameter, and the registers of x and y. F is the finest level.
+use mathlib.Core.Bool.{Bool, cond, _&&_}
+use Prim.Native.Nat.{ℕ, zero, suc, _+_, _-_, _*_, _%_, _^_}
+use lib.Dec.{leb, ltb, eqb}
+use lib.IntN.{ℤ, pos, negsuc}
+use lib.Signed.{leZ}
+use Rattle.rules.specs.Rules.{unless}
+use Rattle.engine.specs.declared.Registers.{Registers}
+use Rattle.engine.specs.declared.Drawing.{Drawing}
+use Rattle.engine.specs.declared.Moved.{Moved}
+use Rattle.engine.specs.Registers.{Operation, halve, double, step, turn}
+
+-- s: what one step at level n adds to q. A drawing ends at q = 2^F.
+abbrev pub stride : ℕ → ℕ → ℕ
+stride F n = 2 ^ (F - n)
+
+-- level from 0 to F, q from 0 to 2^F and a multiple of s
+unfoldable pub isDrawing : ℕ → ℕ → ℕ → Bool
+isDrawing F n q = leb n F && leb q (2 ^ F) && eqb (q % stride F n) 0
+
+-- what each operation refuses by itself: 6 is halve at level F, 7 double at level 0, 8 double where q is no multiple of 2s
+abbrev pub ownRefusal : ℕ → Operation → ℕ → ℕ → ℕ
+ownRefusal F halve n q = unless (ltb n F) 6 0
+ownRefusal F double n q = unless (ltb 0 n) 7 (unless (eqb (q % (2 * stride F n)) 0) 8 0)
+ownRefusal F step n q = 0
+
+-- 10 by level and q, then 5 at the end of the drawing, then what comes after
+unfoldable pub gated : ℕ → ℕ → ℕ → ℕ → ℕ
+gated F n q rest = unless (isDrawing F n q) 10 (unless (ltb q (2 ^ F)) 5 rest)
+
+unfoldable pub callRefusal : ℕ → Operation → ℕ → ℕ → ℕ
+callRefusal F op n q = gated F n q (ownRefusal F op n q)
+
+-- the new level, the new position, and the new drawing, with registers of any size
+abbrev pub newLevel : Operation → ℕ → ℕ
+newLevel halve n = n + 1
+newLevel double n = n - 1
+newLevel step n = n
+
+abbrev pub newPosition : ℕ → Operation → ℕ → ℕ → ℕ
+newPosition F halve n q = q
+newPosition F double n q = q
+newPosition F step n q = q + stride F n
+
+unfoldable pub turned : ℕ → Operation → Drawing → Drawing
+turned F op d =
+    record {
+      level = newLevel op (d .level);
+      q = newPosition F op (d .level) (d .q);
+      x = turn op (d .level) (d .x);
+      y = turn op (d .level) (d .y);
+    }
+
+-- a register is a signed number of 32 bits
+abbrev pub isRegister : ℤ → Bool
+isRegister z = leZ (negsuc 2147483647) z && leZ z (pos 2147483647)
+
+unfoldable pub areRegisters : Registers → Bool
+areRegisters r = isRegister (r .a) && isRegister (r .b) && isRegister (r .c) && isRegister (r .d)
+
+-- a refusal gives back the drawing that was given
+abbrev pub refused : ℕ → Drawing → Moved
+refused k d = record { refusal = k; drawing = d }
+
+-- 10 by any new register outside 32 bits
+unfoldable pub landed : Drawing → Drawing → Moved
+landed old new = cond (areRegisters (new .x) && areRegisters (new .y)) (record { refusal = 0; drawing = new }) (refused 10 old)
+
+abbrev pub answered : ℕ → Drawing → Drawing → Moved
+answered zero old new = landed old new
+answered (suc k) old new = refused (suc k) old
+
+-- what halve, double and step answer
+unfoldable pub called : ℕ → Operation → Drawing → Moved
+called F op d = answered (callRefusal F op (d .level) (d .q)) d (turned F op d)

@@ -1,0 +1,8 @@
+-- Laws that no one function owns; every crate above cites them.
+pub mod Parts
+pub mod Ring
+pub mod Order
+pub mod Floor
+pub mod Size
+pub mod Machine
+pub mod Tests

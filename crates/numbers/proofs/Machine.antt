@@ -1,0 +1,118 @@
+-- Signed numbers of the machine, read as whole numbers. `Num N z`: what the machine holds is z, and |z| is at most N.
+-- A proof follows its code: a parameter or a field is `field`, what went through a local is `local`, and `shift`, `plus`, `minus` and
+-- `times` are the operations. The bounds are numerals that antt computes, so that each condition is `tt`.
+use mathlib.Core.Path.{_≡_, refl, sym, ap, _∙_, subst}
+use Prim.Native.Nat.{ℕ, zero, suc, _+_, _*_, _^_, _≤_, _<_}
+use native.Mathlib.Nat.{lt-of-le-of-lt, le-of-lt}
+use native.Mathlib.Omega.{arith}
+use lib.Dec.{T, leb, ltb, leb→le, ltb→lt}
+use lib.Pow.{pow-pos}
+use lib.IntN.{ℤ, pos, negsuc, natAbs, _+ℤ_, _-ℤ_, _*ℤ_}
+use lib.Signed.{mag, shrZ, nonNeg}
+use mir.Syntax.{Width, w32, w64}
+use mir.Val.{Fits, SFits, toZ, ofZ, bits, hbits}
+use mir.Facts.{toZ-ofZ, sfits-widen}
+use borrow.Author.Needs.{needs}
+use Rattle.numbers.proofs.Size.{Size, size-of, size-sum, size-difference, size-product, size-by, size-floor, size-shift}
+
+pub record Num (N : ℕ) (z : ℤ) : Type 0 where
+  pub machine : ℤ
+  pub is : machine ≡ z
+  pub small : Size z N
+
+-- ---- ranges
+
+mag-size : {z : ℤ} {m : ℕ} → Size z m → mag z ≤ m
+mag-size {z = pos n} s = s .le
+mag-size {z = negsuc n} s = omega (arith, s .le)
+
+size-mag : (z : ℤ) (m : ℕ) → mag z < m → Size z m
+size-mag (pos n) m h = record { le = le-of-lt h }
+size-mag (negsuc n) m h = record { le = h }
+
+pub size-fits : {w : Width} {z : ℤ} {N : ℕ} → T (ltb N (2 ^ hbits w)) → Size z N → SFits w z
+size-fits {w} {z} {N} t s = record { sfits = lt-of-le-of-lt (mag-size s) (ltb→lt N (2 ^ hbits w) t) }
+
+pub fits-size : {w : Width} {z : ℤ} → SFits w z → Size z (2 ^ hbits w)
+fits-size {w} {z} f = size-mag z (2 ^ hbits w) (f .sfits)
+
+-- what a sum or a product asks
+pub fits : {w : Width} {N : ℕ} {z : ℤ} → T (ltb N (2 ^ hbits w)) → (n : Num N z) → SFits w (n .machine)
+fits {w} t n = subst (SFits w) (sym (n .is)) (size-fits t (n .small))
+
+-- what the machine reads back
+pub reads-back : {w : Width} {y z : ℤ} → y ≡ z → SFits w z → toZ w (ofZ w y) ≡ z
+reads-back {w} e f = ap (λ (v : ℤ). toZ w (ofZ w v)) e ∙ toZ-ofZ f
+
+-- ---- where a number comes from
+
+abbrev pub field : {w : Width} {z : ℤ} → SFits w z → Num (2 ^ hbits w) z
+field {w} {z} f = record { machine = toZ w (ofZ w z); is = toZ-ofZ f; small = fits-size f }
+
+-- a field or a parameter whose size is known better
+abbrev pub known : (w : Width) {N : ℕ} {z : ℤ} → T (ltb N (2 ^ hbits w)) → Size z N → Num N z
+known w {z = z} t s = record { machine = toZ w (ofZ w z); is = toZ-ofZ (size-fits t s); small = s }
+
+-- a value that the proof speaks of as it is
+abbrev pub plain : {N : ℕ} {z : ℤ} → Size z N → Num N z
+plain {z = z} s = record { machine = z; is = refl; small = s }
+
+abbrev pub literal : (n : ℕ) → Num n (pos n)
+literal n = plain (size-of n)
+
+-- through a local
+abbrev pub local : (w : Width) {N : ℕ} {z : ℤ} → T (ltb N (2 ^ hbits w)) → Num N z → Num N z
+local w t n =
+    record { machine = toZ w (ofZ w (n .machine)); is = reads-back (n .is) (size-fits t (n .small)); small = n .small }
+
+-- the same number under a better bound
+abbrev pub tighter : {N M : ℕ} {z : ℤ} → Size z M → Num N z → Num M z
+tighter s n = record { machine = n .machine; is = n .is; small = s }
+
+-- ---- the operations
+
+abbrev pub shift : {N : ℕ} {z : ℤ} (k : ℕ) → Num N z → Num N (shrZ z (2 ^ k))
+shift k n =
+    record {
+      machine = shrZ (n .machine) (2 ^ k);
+      is = ap (λ (v : ℤ). shrZ v (2 ^ k)) (n .is);
+      small = size-shift (2 ^ k) (pow-pos k) (n .small);
+    }
+
+-- under a bound that shrinks with it
+abbrev pub shift-to : {N : ℕ} {z : ℤ} (k M : ℕ) → T (leb N (M * 2 ^ k)) → Num N z → Num M (shrZ z (2 ^ k))
+shift-to {N} k M t n =
+    record {
+      machine = shrZ (n .machine) (2 ^ k);
+      is = ap (λ (v : ℤ). shrZ v (2 ^ k)) (n .is);
+      small = size-floor (2 ^ k) (pow-pos k) (size-by refl (leb→le N (M * 2 ^ k) t) (n .small));
+    }
+
+abbrev pub plus : {N M : ℕ} {u v : ℤ} → Num N u → Num M v → Num (N + M) (u +ℤ v)
+plus a b =
+    record { machine = a .machine +ℤ b .machine; is = λ i. a .is i +ℤ b .is i; small = size-sum (a .small) (b .small) }
+
+abbrev pub minus : {N M : ℕ} {u v : ℤ} → Num N u → Num M v → Num (N + M) (u -ℤ v)
+minus a b =
+    record { machine = a .machine -ℤ b .machine; is = λ i. a .is i -ℤ b .is i; small = size-difference (a .small) (b .small) }
+
+abbrev pub times : {N M : ℕ} {u v : ℤ} → Num N u → Num M v → Num (N * M) (u *ℤ v)
+times a b =
+    record { machine = a .machine *ℤ b .machine; is = λ i. a .is i *ℤ b .is i; small = size-product (a .small) (b .small) }
+
+-- ---- casts
+
+pub widens : {z : ℤ} → SFits w32 z → SFits w64 z
+widens f = sfits-widen tt f
+
+pub narrows : {z : ℤ} → SFits w32 z → SFits w32 (toZ w64 (ofZ w64 z))
+narrows f = subst (SFits w32) (sym (toZ-ofZ (widens f))) f
+
+-- to an unsigned type as wide
+pub unsigned : {w : Width} {N : ℕ} {z : ℤ} → T (ltb N (2 ^ bits w)) → (n : Num N z) → T (nonNeg z) → T (nonNeg (n .machine)) × Fits w (natAbs (n .machine))
+unsigned {w} {N} t n p =
+    subst (λ (v : ℤ). T (nonNeg v) × Fits w (natAbs v)) (sym (n .is))
+    (p, record { fits = lt-of-le-of-lt (n .small .le) (ltb→lt N (2 ^ bits w) t) })
+
+-- for `search`: a signed number that is read, cast to a wider type, or returned
+pub ruleset signed = (needs, toZ-ofZ, widens)

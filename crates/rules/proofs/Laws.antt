@@ -1,0 +1,32 @@
+-- What the rules say of the numbers that they accept.
+use mathlib.Core.Path.{_≡_}
+use mathlib.Core.Bool.{true, _&&_}
+use Prim.Native.Nat.{ℕ, _≤_}
+use native.Mathlib.Omega.{arith}
+use lib.Dec.{leb}
+use lib.IntN.{ℤ, pos, negsuc, _-ℤ_}
+use borrow.Author.Tests.{leb-true}
+use Rattle.numbers.proofs.Size.{Size}
+use Rattle.numbers.proofs.Tests.{and-true}
+use Rattle.rules.specs.Rules.{isCoordinate, areNeighbours, reach, areLimits}
+
+pub coordinate-size : (p : ℤ) → isCoordinate p ≡ true → Size p 16384
+unfolding isCoordinate
+coordinate-size (pos n) e = record { le = omega (arith, leb-true n 16383 e) }
+coordinate-size (negsuc n) e = record { le = omega (arith, leb-true n 16383 (and-true (leb n 16383) true e .0)) }
+
+pub neighbours-size : (p p' : ℤ) → areNeighbours p p' ≡ true → Size (p' -ℤ p) reach
+unfolding areNeighbours
+neighbours-size p p' e = record { le = leb-true _ reach e }
+
+pub record Limits (upper lower : ℕ) : Type 0 where
+  pub some : 1 ≤ upper
+  pub most : upper ≤ 65536
+  pub order : lower ≤ upper
+
+pub limits-hold : (upper lower : ℕ) → areLimits upper lower ≡ true → Limits upper lower
+unfolding areLimits
+limits-hold upper lower e =
+    let two = and-true (leb 1 upper && leb upper 65536) (leb lower upper) e in
+    let one = and-true (leb 1 upper) (leb upper 65536) (two .0) in
+    record { some = leb-true 1 upper (one .0); most = leb-true upper 65536 (one .1); order = leb-true lower upper (two .1) }

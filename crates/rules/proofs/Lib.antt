@@ -1,0 +1,2 @@
+-- Laws of the rules, for the crates that cite them.
+pub mod Laws

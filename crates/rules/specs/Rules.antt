@@ -1,0 +1,53 @@
+-- What document 01 accepts, by its refusal numbers 1 to 4 and 14, and how a table of refusals is read.
+use mathlib.Core.Bool.{Bool, cond, _&&_}
+use Prim.Native.Nat.{ℕ, _+_, _*_}
+use lib.Dec.{leb, eqb}
+use lib.IntN.{ℤ, pos, negsuc, natAbs, _-ℤ_}
+use lib.Signed.{leZ}
+
+-- One line of a table of refusals: the number where the rule is broken, and else what the lines after it say. 0 is no refusal.
+abbrev pub unless : Bool → ℕ → ℕ → ℕ
+unless rule number rest = cond rule rest number
+
+-- the finest level
+abbrev pub finest : ℕ
+finest = 11
+
+-- 1: a coordinate is from −16,384 to 16,383
+unfoldable pub isCoordinate : ℤ → Bool
+isCoordinate p = leZ (negsuc 16383) p && leZ p (pos 16383)
+
+-- 2: neighbouring control points differ by at most 682 in a coordinate
+abbrev pub reach : ℕ
+reach = 682
+
+unfoldable pub areNeighbours : ℤ → ℤ → Bool
+areNeighbours p p' = leb (natAbs (p' -ℤ p)) reach
+
+-- 3: a start level is from 0 to the finest
+unfoldable pub isLevel : ℕ → ℕ → Bool
+isLevel F n = leb n F
+
+-- 4: 1 ≤ upper ≤ 65,536 and 0 ≤ lower ≤ upper
+unfoldable pub areLimits : ℕ → ℕ → Bool
+areLimits upper lower = leb 1 upper && leb upper 65536 && leb lower upper
+
+-- the limits of an entry without limits
+abbrev pub standardUpper : ℕ
+standardUpper = 65536
+
+abbrev pub standardLower : ℕ
+standardLower = 32768
+
+-- 14: a path has 1 to 64 segments, and 3S + 1 points of two coordinates
+abbrev pub degree : ℕ
+degree = 3
+
+abbrev pub coordinates : ℕ
+coordinates = 2
+
+abbrev pub mostSegments : ℕ
+mostSegments = 64
+
+unfoldable pub isSize : ℕ → ℕ → Bool
+isSize S numbers = leb 1 S && leb S mostSegments && eqb numbers (coordinates * (degree * S + 1))

@@ -1,0 +1,53 @@
+// The rules that every room shares: refusals 1 to 4 and 14 of document 01, as tests of any numbers.
+ghost use mathlib.Core.Path.{_≡_};
+ghost use Rattle.rules.specs.Rules.{finest, isCoordinate, areNeighbours, isLevel, areLimits, isSize};
+
+// The finest level: positions count 2^FINEST-ths of the parameter.
+pub const FINEST: u32 = 11;
+
+// The limits of an entry without limits.
+pub const STANDARD_UPPER: u32 = 65536;
+
+pub const STANDARD_LOWER: u32 = 32768;
+
+// 1 where it fails.
+pub fn coordinate(p: i32) -> bool
+    ensures { λ r. ⌜ r ≡ isCoordinate p ⌝ }
+{
+    (-16384 <= p) & (p <= 16383)
+}
+
+// 2 where it fails. Any two numbers may be asked: their difference is taken in 64 bits.
+pub fn neighbours(p: i32, q: i32) -> bool
+    ensures { λ r. ⌜ r ≡ areNeighbours p q ⌝ }
+{
+    let apart = (q as i64) - (p as i64);
+    (-682 <= apart) & (apart <= 682)
+}
+
+// 3 where it fails.
+pub fn level(n: u32) -> bool
+    ensures { λ r. ⌜ r ≡ isLevel finest n ⌝ }
+{
+    n <= FINEST
+}
+
+// 4 where it fails.
+pub fn limits(upper: u32, lower: u32) -> bool
+    ensures { λ r. ⌜ r ≡ areLimits upper lower ⌝ }
+{
+    (1 <= upper) & (upper <= 65536) & (lower <= upper)
+}
+
+// 14 where it fails: segments is looked at first, so that no product wraps.
+pub fn size(segments: u32, numbers: usize) -> bool
+    ensures { λ r. ⌜ r ≡ isSize segments numbers ⌝ }
+{
+    if segments < 1 {
+        return false;
+    }
+    if 64 < segments {
+        return false;
+    }
+    numbers == 2 * (3 * segments as usize + 1)
+}

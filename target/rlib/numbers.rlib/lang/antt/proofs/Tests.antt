@@ -1,0 +1,49 @@
+-- Tests, that is values of Bool: a case for each value, what a test of several parts says, and the tests of ℤ.
+use mathlib.Core.Path.{_≡_, refl, sym, subst, _∙_}
+use mathlib.Core.Bool.{Bool, true, false, _&&_, _||_, false≢true, true≢false}
+use Prim.Native.Nat.{ℕ, suc, _<_}
+use native.Mathlib.Nat.{not-suc-le-zero, zero-add}
+use lib.Dec.{T, leb, leb·suc-suc}
+use lib.IntN.{ℤ, pos, negsuc, natAbs, _-ℤ_}
+use lib.Signed.{leZ, ltZ, nonNeg}
+use borrow.Author.Tests.{ltb-true}
+
+pub by-test {ℓ} : {X : Type ℓ} (b : Bool) → (b ≡ true → X) → (b ≡ false → X) → X
+by-test true f g = f refl
+by-test false f g = g refl
+
+pub so : {b : Bool} → b ≡ true → T b
+so e = subst T (sym e) tt
+
+pub is-so : {b : Bool} → T b → b ≡ true
+is-so {b = true} t = refl
+is-so {b = false} t = absurd t
+
+pub and-true : (a b : Bool) → (a && b) ≡ true → (a ≡ true) × (b ≡ true)
+and-true true b e = (refl, e)
+and-true false b e = absurd (false≢true e)
+
+pub true-and : {a b : Bool} → a ≡ true → b ≡ true → (a && b) ≡ true
+true-and e f = λ i. e i && f i
+
+pub or-false : (a b : Bool) → (a || b) ≡ false → (a ≡ false) × (b ≡ false)
+or-false true b e = absurd (true≢false e)
+or-false false b e = (refl, e)
+
+-- from −m to m, as two comparisons
+pub within : (m : ℕ) (z : ℤ) → (leZ (negsuc m) z && leZ z (pos (suc m))) ≡ leb (natAbs z) (suc m)
+within m (pos a) = refl
+within m (negsuc a) = and-true-right (leb a m) ∙ sym (leb·suc-suc a m)
+  where
+    and-true-right : (b : Bool) → (b && true) ≡ b
+    and-true-right true = refl
+    and-true-right false = refl
+
+-- below 0, and from 0 on
+pub below-zero : (z : ℤ) → ltZ z (pos 0) ≡ true → T (nonNeg (pos 0 -ℤ z)) × (natAbs (pos 0 -ℤ z) ≡ natAbs z)
+below-zero (pos n) e = let no : n < 0 = ltb-true n 0 e in absurd (not-suc-le-zero no)
+below-zero (negsuc n) e = (tt, zero-add (suc n))
+
+pub from-zero : (z : ℤ) → ltZ z (pos 0) ≡ false → T (nonNeg z)
+from-zero (pos n) e = tt
+from-zero (negsuc n) e = absurd (true≢false e)
