@@ -2,3 +2,7 @@
 pub mod Fitting
 pub mod Gates
 pub mod Begin
+pub mod Exact
+pub mod Back
+pub mod Refined
+pub mod Turns
