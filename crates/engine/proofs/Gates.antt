@@ -10,20 +10,14 @@ use lib.Pow.{pow-add, pow-pos}
 use borrow.Author.Tests.{leb-true, ltb-true, eqb-true}
 use Rattle.numbers.proofs.Tests.{by-test, and-true}
 use Rattle.rules.specs.Rules.{unless, areLimits, isLevel}
+use Rattle.rules.proofs.Laws.{rule-kept}
 use Rattle.engine.specs.declared.Drawing.{Drawing}
 use Rattle.engine.specs.declared.Control.{Control}
 use Rattle.engine.specs.declared.Moved.{Moved}
-use Rattle.engine.specs.Curve.{curve}
-use Rattle.engine.specs.Registers.{Operation, startRegisters}
+use Rattle.engine.specs.Registers.{Operation}
 use Rattle.engine.specs.Drawing.{stride, isDrawing, ownRefusal, gated, callRefusal, turned, refused, landed, answered, called}
 use Rattle.engine.specs.Choice.{Said, chosen, replied, choiceRefusal, choice}
-use Rattle.engine.specs.Start.{areCoordinates, areNear, startRefusal, nothingDrawn, begun, started}
-
--- ---- a line of a table
-
-pub kept-rule : (rule : Bool) (k rest : ℕ) → unless rule (suc k) rest ≡ 0 → (rule ≡ true) × (rest ≡ 0)
-kept-rule true k rest e = (refl, e)
-kept-rule false k rest e = let no : ⊥ = omega arith in absurd no
+use Rattle.engine.specs.Start.{areCoordinates, areNear, startRefusal, nothingDrawn, begun, firstDrawing, started}
 
 -- ---- level and q
 
@@ -51,8 +45,8 @@ pub record Open (F n q : ℕ) : Type 0 where
 pub opens : (F n q rest : ℕ) → gated F n q rest ≡ 0 → Open F n q × (rest ≡ 0)
 unfolding gated
 opens F n q rest e =
-    let f = kept-rule (isDrawing F n q) 9 (unless (ltb q (2 ^ F)) 5 rest) e in
-    let g = kept-rule (ltb q (2 ^ F)) 4 rest (f .1) in
+    let f = rule-kept (isDrawing F n q) 9 (unless (ltb q (2 ^ F)) 5 rest) e in
+    let g = rule-kept (ltb q (2 ^ F)) 4 rest (f .1) in
     (record { inside = inside F n q (f .0); before-end = ltb-true q (2 ^ F) (g .0) }, g .1)
 
 -- the same gate before other refusals
@@ -121,7 +115,7 @@ choice-refused F upper lower d {k} e h = shut k h ∙ ap (λ (j : ℕ). replied 
 pub choice-opens : (F upper lower n q : ℕ) → choiceRefusal F upper lower n q ≡ 0 → (areLimits upper lower ≡ true) × Open F n q
 unfolding choiceRefusal
 choice-opens F upper lower n q e =
-    let f = kept-rule (areLimits upper lower) 3 (gated F n q 0) e in
+    let f = rule-kept (areLimits upper lower) 3 (gated F n q 0) e in
     (f .0, opens F n q 0 (f .1) .0)
 
 -- ---- a start that is not refused
@@ -138,9 +132,9 @@ pub record Accepted (F : ℕ) (p q : Control) (n : ℕ) : Type 0 where
 pub accepted : (F : ℕ) (x y : Control) (n : ℕ) → startRefusal F x y n ≡ 0 → Accepted F x y n
 unfolding startRefusal isLevel
 accepted F x y n e =
-    let f = kept-rule (areCoordinates x && areCoordinates y) 0 _ e in
-    let g = kept-rule (areNear x && areNear y) 1 _ (f .1) in
-    let h = kept-rule (isLevel F n) 2 0 (g .1) in
+    let f = rule-kept (areCoordinates x && areCoordinates y) 0 _ e in
+    let g = rule-kept (areNear x && areNear y) 1 _ (f .1) in
+    let h = rule-kept (isLevel F n) 2 0 (g .1) in
     let inside = and-true (areCoordinates x) (areCoordinates y) (f .0) in
     let close = and-true (areNear x) (areNear y) (g .0) in
     record {
@@ -152,17 +146,13 @@ accepted F x y n e =
 pub start-refused : (F : ℕ) (x y : Control) (n : ℕ) {k : ℕ} → k ≡ startRefusal F x y n → (k ≡ 0 → ⊥)
     → record { refusal = k; drawing = nothingDrawn } ≡ started F x y n
 unfolding started
-start-refused F x y n {k} e h = shut k h ∙ ap (λ (j : ℕ). begun j first) e
+start-refused F x y n {k} e h = shut k h ∙ ap (λ (j : ℕ). begun j (firstDrawing x y n)) e
   where
-    first : Drawing
-    first = record { level = n; q = 0; x = startRegisters n (curve x); y = startRegisters n (curve y) }
-
-    shut : (k : ℕ) → (k ≡ 0 → ⊥) → record { refusal = k; drawing = nothingDrawn } ≡ begun k first
+    shut : (k : ℕ) → (k ≡ 0 → ⊥) → record { refusal = k; drawing = nothingDrawn } ≡ begun k (firstDrawing x y n)
     shut zero h = absurd (h refl)
     shut (suc k) h = refl
 
 pub start-begins : (F : ℕ) (x y : Control) (n : ℕ) → startRefusal F x y n ≡ 0
-    → started F x y n ≡ record { refusal = 0; drawing = record { level = n; q = 0; x = startRegisters n (curve x); y = startRegisters n (curve y) } }
+    → started F x y n ≡ record { refusal = 0; drawing = firstDrawing x y n }
 unfolding started
-start-begins F x y n e =
-    ap (λ (j : ℕ). begun j (record { level = n; q = 0; x = startRegisters n (curve x); y = startRegisters n (curve y) })) e
+start-begins F x y n e = ap (λ (j : ℕ). begun j (firstDrawing x y n)) e

@@ -6,3 +6,4 @@ pub mod Exact
 pub mod Back
 pub mod Refined
 pub mod Turns
+pub mod Demand1

@@ -1,5 +1,6 @@
 -- Choosing the next operation. Increments are whole numbers of any size.
 use mathlib.Core.Bool.{Bool, cond, _&&_, _||_}
+use mathlib.Core.List.{List, [], _∷_}
 use mathlib.Core.Option.{Option, none, some}
 use Prim.Native.Nat.{ℕ, zero, suc, _-_, _*_, _%_, _^_}
 use lib.Dec.{leb, ltb, eqb}
@@ -39,6 +40,13 @@ chosen F upper lower d = cond (wantsHalve F upper d) halve (cond (wantsDouble F 
 -- 4, 10 by level and q, 5
 unfoldable pub choiceRefusal : ℕ → ℕ → ℕ → ℕ → ℕ → ℕ
 choiceRefusal F upper lower n q = unless (areLimits upper lower) 4 (gated F n q 0)
+
+abbrev pub choiceTable : List ℕ
+choiceTable = 0 ∷ 4 ∷ 5 ∷ 10 ∷ []
+
+-- under the standard limits
+abbrev pub standardTable : List ℕ
+standardTable = 0 ∷ 5 ∷ 10 ∷ []
 
 -- ---- the answer, as numbers: the refusal, and the operation where there is none
 

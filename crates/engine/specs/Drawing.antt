@@ -1,5 +1,6 @@
 -- A drawing: level n, position q in 2^F-ths of the parameter, and the registers of x and y. F is the finest level.
 use mathlib.Core.Bool.{Bool, cond, _&&_}
+use mathlib.Core.List.{List, [], _∷_}
 use Prim.Native.Nat.{ℕ, zero, suc, _+_, _-_, _*_, _%_, _^_}
 use lib.Dec.{leb, ltb, eqb}
 use lib.IntN.{ℤ, pos, negsuc}
@@ -30,6 +31,12 @@ gated F n q rest = unless (isDrawing F n q) 10 (unless (ltb q (2 ^ F)) 5 rest)
 
 unfoldable pub callRefusal : ℕ → Operation → ℕ → ℕ → ℕ
 callRefusal F op n q = gated F n q (ownRefusal F op n q)
+
+-- the numbers by which an operation may be refused, 0 for none
+abbrev pub callTable : Operation → List ℕ
+callTable halve = 0 ∷ 5 ∷ 6 ∷ 10 ∷ []
+callTable double = 0 ∷ 5 ∷ 7 ∷ 8 ∷ 10 ∷ []
+callTable step = 0 ∷ 5 ∷ 10 ∷ []
 
 -- the new level, the new position, and the new drawing, with registers of any size
 abbrev pub newLevel : Operation → ℕ → ℕ

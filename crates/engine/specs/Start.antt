@@ -1,5 +1,6 @@
 -- The start of a drawing: 1 over all points of x and y, then 2, then 3.
 use mathlib.Core.Bool.{Bool, _&&_}
+use mathlib.Core.List.{List, [], _∷_}
 use Prim.Native.Nat.{ℕ, zero, suc}
 use lib.IntN.{pos}
 use Rattle.rules.specs.Rules.{unless, isCoordinate, areNeighbours, isLevel}
@@ -22,6 +23,9 @@ startRefusal F x y n =
     (unless (areNear x && areNear y) 2
     (unless (isLevel F n) 3 0))
 
+abbrev pub startTable : List ℕ
+startTable = 0 ∷ 1 ∷ 2 ∷ 3 ∷ []
+
 abbrev pub zeros : Registers
 zeros = record { a = pos 0; b = pos 0; c = pos 0; d = pos 0 }
 
@@ -34,7 +38,9 @@ abbrev pub begun : ℕ → Drawing → Moved
 begun zero d = record { refusal = 0; drawing = d }
 begun (suc k) d = record { refusal = suc k; drawing = nothingDrawn }
 
+-- at level n and q = 0
+abbrev pub firstDrawing : Control → Control → ℕ → Drawing
+firstDrawing x y n = record { level = n; q = 0; x = startRegisters n (curve x); y = startRegisters n (curve y) }
+
 unfoldable pub started : ℕ → Control → Control → ℕ → Moved
-started F x y n =
-    begun (startRefusal F x y n)
-    (record { level = n; q = 0; x = startRegisters n (curve x); y = startRegisters n (curve y) })
+started F x y n = begun (startRefusal F x y n) (firstDrawing x y n)

@@ -1,14 +1,33 @@
--- What the rules say of the numbers that they accept.
-use mathlib.Core.Path.{_≡_}
-use mathlib.Core.Bool.{true, _&&_}
-use Prim.Native.Nat.{ℕ, _≤_}
+-- How tables of refusals are read, and what the rules say of the numbers that they accept.
+use mathlib.Core.Path.{_≡_, refl}
+use mathlib.Core.Bool.{Bool, true, false, _&&_}
+use mathlib.Core.List.{List}
+use Prim.Native.Nat.{ℕ, suc, _≤_}
 use native.Mathlib.Omega.{arith}
-use lib.Dec.{leb}
+use lib.Dec.{T, leb}
 use lib.IntN.{ℤ, pos, negsuc, _-ℤ_}
 use borrow.Author.Tests.{leb-true}
 use Rattle.numbers.proofs.Size.{Size}
 use Rattle.numbers.proofs.Tests.{and-true}
-use Rattle.rules.specs.Rules.{isCoordinate, areNeighbours, reach, areLimits}
+use Rattle.rules.specs.Rules.{unless, isAmong, Among, isCoordinate, areNeighbours, reach, areLimits}
+
+-- ---- tables of refusals
+
+-- a line that does not refuse
+pub rule-kept : (rule : Bool) (k rest : ℕ) → unless rule (suc k) rest ≡ 0 → (rule ≡ true) × (rest ≡ 0)
+rule-kept true k rest e = (refl, e)
+rule-kept false k rest e = let no : ⊥ = omega arith in absurd no
+
+-- each line's number is in the table
+pub line-among : (rule : Bool) {k rest : ℕ} {table : List ℕ} → Among k table → Among rest table → Among (unless rule k rest) table
+line-among true h t = t
+line-among false h t = h
+
+-- a written number in a written table
+pub among : {k : ℕ} {table : List ℕ} → T (isAmong k table) → Among k table
+among t = record { is = t }
+
+-- ---- numbers that are accepted
 
 pub coordinate-size : (p : ℤ) → isCoordinate p ≡ true → Size p 16384
 unfolding isCoordinate

@@ -1,13 +1,22 @@
 -- What document 01 accepts, by its refusal numbers 1 to 4 and 14, and how a table of refusals is read.
-use mathlib.Core.Bool.{Bool, cond, _&&_}
+use mathlib.Core.Bool.{Bool, false, cond, _&&_, _||_}
+use mathlib.Core.List.{List, [], _∷_}
 use Prim.Native.Nat.{ℕ, _+_, _*_}
-use lib.Dec.{leb, eqb}
+use lib.Dec.{T, leb, eqb}
 use lib.IntN.{ℤ, pos, negsuc, natAbs, _-ℤ_}
 use lib.Signed.{leZ}
 
 -- One line of a table of refusals: the number where the rule is broken, and else what the lines after it say. 0 is no refusal.
 abbrev pub unless : Bool → ℕ → ℕ → ℕ
 unless rule number rest = cond rule rest number
+
+-- k is one of the numbers of a table
+abbrev pub isAmong : ℕ → List ℕ → Bool
+isAmong k [] = false
+isAmong k (x ∷ xs) = eqb k x || isAmong k xs
+
+pub record Among (k : ℕ) (table : List ℕ) : Type 0 where
+  pub is : T (isAmong k table)
 
 -- the finest level
 abbrev pub finest : ℕ

@@ -2,9 +2,10 @@ use mathlib.Core.Path.{_≡_, sym, _∙_}
 use Prim.Native.Nat.{_+_, _-_, _≤_}
 use borrow.Author.Needs.{needs}
 use borrow.Author.Tests.{ltb-true}
+use Rattle.rules.proofs.Laws.{rule-kept}
 use Rattle.engine.specs.Registers.{double}
 use Rattle.engine.specs.Drawing.{callRefusal, turned, landed}
-use Rattle.engine.proofs.Gates.{Open, call-opens, call-refused, call-landed, kept-rule}
+use Rattle.engine.proofs.Gates.{Open, call-opens, call-refused, call-landed}
 use Rattle.engine.proofs.Drawing.double.Statement.{statement}
 use Rattle.engine.proofs.Drawing.double.Tie as tie
 
@@ -28,7 +29,7 @@ double-one-requires-2 c κs = low (c .before)
 
 sub-land : tie.Need-sub-land
 sub-land c =
-    let e = kept-rule _ _ _ (call-opens 11 double _ _ (passes (c .before .before)) .1) in
+    let e = rule-kept _ _ _ (call-opens 11 double _ _ (passes (c .before .before)) .1) in
     ltb-true _ _ (e .0)
 
 land-requires : tie.Need-land-requires
