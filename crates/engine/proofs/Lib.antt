@@ -7,3 +7,8 @@ pub mod Back
 pub mod Refined
 pub mod Turns
 pub mod Demand1
+pub mod Answer
+pub mod Bernstein
+pub mod Pixel
+pub mod Ends
+pub mod Cases

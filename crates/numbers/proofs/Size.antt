@@ -6,7 +6,7 @@ use native.Mathlib.Omega.{arith}
 use lib.IntN.{ℤ, pos, negsuc, negℤ, natAbs, _+ℤ_, _-ℤ_, _*ℤ_}
 use lib.Signed.{shrZ, _≤ℤ_}
 use Rattle.numbers.proofs.Parts.{up, down, same, add-parts, neg-parts}
-use Rattle.numbers.proofs.Order.{le-parts}
+use Rattle.numbers.proofs.Order.{le-parts, parts-le}
 
 pub record Size (z : ℤ) (m : ℕ) : Type 0 where
   pub le : natAbs z ≤ m
@@ -24,6 +24,11 @@ size-parts {z = negsuc a} s = (omega arith, omega (arith, s .le))
 pub size-between : {z : ℤ} {m : ℕ} → z ≤ℤ pos m → (pos 0 -ℤ z) ≤ℤ pos m → Size z m
 size-between {z} {m} h k =
     of-parts z m (omega (arith, le-parts h)) (omega (arith, le-parts k, add-parts (pos 0) (negℤ z), neg-parts z))
+
+pub size-bounds : {z : ℤ} {m : ℕ} → Size z m → ((pos 0 -ℤ pos m) ≤ℤ z) × (z ≤ℤ pos m)
+size-bounds {z} {m} s =
+    let f = size-parts s in
+    (parts-le (pos 0 -ℤ pos m) z (omega (arith, add-parts (pos 0) (negℤ (pos m)), neg-parts (pos m))), parts-le z (pos m) (omega arith))
 
 -- ---- of sums and products
 

@@ -6,3 +6,4 @@ pub mod Floor
 pub mod Size
 pub mod Machine
 pub mod Tests
+pub mod Tables

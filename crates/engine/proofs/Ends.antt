@@ -1,0 +1,111 @@
+-- Why a drawing ends: a number that falls with every chosen operation. It needs no bound on the registers, only that the double is
+-- chosen with a look at the doubled increments.
+use mathlib.Core.Path.{_≡_, refl}
+use mathlib.Core.Bool.{Bool, true, false, cond, _&&_, _||_}
+use Prim.Native.Nat.{ℕ, _+_, _-_, _*_, _%_, _^_, _≤_, _<_}
+use native.Mathlib.Nat.{mul-le-mul-right}
+use native.Mathlib.Omega.{arith}
+use lib.Dec.{leb, ltb, eqb}
+use lib.Pow.{pow-pos}
+use borrow.Author.Tests.{ltb-true, leb-true, eqb-true, le-ltb}
+use Rattle.numbers.proofs.Tests.{and-true}
+use Rattle.engine.specs.declared.Drawing.{Drawing}
+use Rattle.engine.specs.Registers.{Operation, halve, double, step}
+use Rattle.engine.specs.Drawing.{stride, turned}
+use Rattle.engine.specs.Choice.{increment, doubledIncrement, wantsHalve, wantsDouble, chosen}
+
+-- 2F + 2 for each unit of q that is left, and for the level how far it may still be halved, or doubled
+abbrev pub left : ℕ → ℕ → Drawing → ℕ
+left F upper d = (2 ^ F - d .q) * (2 * F + 2) + cond (wantsHalve F upper d) (2 * F + 1 - d .level) (d .level)
+
+-- ---- what the rules say of the drawing
+
+-- by the rule that chose
+pub by-choice : (F upper lower : ℕ) (d : Drawing) (P : Operation → Type 0)
+    → (wantsHalve F upper d ≡ true → P halve)
+    → (wantsHalve F upper d ≡ false → wantsDouble F upper lower d ≡ true → P double)
+    → (wantsHalve F upper d ≡ false → wantsDouble F upper lower d ≡ false → P step)
+    → P (chosen F upper lower d)
+unfolding chosen
+by-choice F upper lower d P h1 h2 h3 = by-tests (wantsHalve F upper d) (wantsDouble F upper lower d) h1 h2 h3
+  where
+    by-tests : (a b : Bool) → (a ≡ true → P halve) → (a ≡ false → b ≡ true → P double) → (a ≡ false → b ≡ false → P step)
+        → P (cond a halve (cond b double step))
+    by-tests true b h1 h2 h3 = h1 refl
+    by-tests false true h1 h2 h3 = h2 refl refl
+    by-tests false false h1 h2 h3 = h3 refl refl
+
+pub halve-chosen : (F upper : ℕ) (d : Drawing) → wantsHalve F upper d ≡ true → d .level < F
+unfolding wantsHalve
+halve-chosen F upper d e =
+    let large = ltb upper (increment (d .level) (d .x)) || ltb upper (increment (d .level) (d .y)) in
+    ltb-true (d .level) F (and-true large (ltb (d .level) F) e .1)
+
+pub record Doubling (F upper : ℕ) (d : Drawing) : Type 0 where
+  pub above : 0 < d .level
+  pub aligned : d .q % (2 * stride F (d .level)) ≡ 0
+  pub x : doubledIncrement (d .level) (d .x) ≤ upper
+  pub y : doubledIncrement (d .level) (d .y) ≤ upper
+
+pub double-chosen : (F upper lower : ℕ) (d : Drawing) → wantsDouble F upper lower d ≡ true → Doubling F upper d
+unfolding wantsDouble
+double-chosen F upper lower d e =
+    let n = d .level in
+    let above = ltb 0 n in
+    let small = ltb (increment n (d .x)) lower && ltb (increment n (d .y)) lower in
+    let aligned = eqb (d .q % (2 * stride F n)) 0 in
+    let dx = leb (doubledIncrement n (d .x)) upper in
+    let dy = leb (doubledIncrement n (d .y)) upper in
+    let three = and-true (above && small && aligned) (dx && dy) e in
+    let two = and-true (above && small) aligned (three .0) in
+    let one = and-true above small (two .0) in
+    let both = and-true dx dy (three .1) in
+    record {
+      above = ltb-true 0 n (one .0);
+      aligned = eqb-true (d .q % (2 * stride F n)) 0 (two .1);
+      x = leb-true (doubledIncrement n (d .x)) upper (both .0);
+      y = leb-true (doubledIncrement n (d .y)) upper (both .1);
+    }
+
+-- after a chosen double the upper test does not ask to halve
+pub double-holds : (F upper lower : ℕ) (d : Drawing) → wantsDouble F upper lower d ≡ true → wantsHalve F upper (turned F double d) ≡ false
+unfolding wantsHalve turned doubledIncrement
+double-holds F upper lower d e =
+    let c = double-chosen F upper lower d e in
+    simp (le-ltb upper _ (c .x), le-ltb upper _ (c .y))
+
+-- ---- and it falls
+
+at-most : (F : ℕ) (b : Bool) (n : ℕ) → n ≤ F → cond b (2 * F + 1 - n) n ≤ 2 * F + 1
+at-most F true n h = omega arith
+at-most F false n h = omega arith
+
+step-falls : (F upper : ℕ) (d : Drawing) → d .level ≤ F → d .q + stride F (d .level) ≤ 2 ^ F → left F upper (turned F step d) < left F upper d
+unfolding turned
+step-falls F upper d h k =
+    let s = pow-pos (F - d .level) in
+    let less : 2 ^ F - (d .q + stride F (d .level)) + 1 ≤ 2 ^ F - d .q = omega arith in
+    omega (arith, mul-le-mul-right (2 * F + 2) less, at-most F (wantsHalve F upper (turned F step d)) (d .level) h)
+
+halve-less : (F : ℕ) (b : Bool) (n : ℕ) → n < F → cond b (2 * F + 1 - (n + 1)) (n + 1) < 2 * F + 1 - n
+halve-less F true n h = omega arith
+halve-less F false n h = omega arith
+
+halve-falls : (F upper : ℕ) (d : Drawing) → wantsHalve F upper d ≡ true → left F upper (turned F halve d) < left F upper d
+unfolding turned
+halve-falls F upper d e =
+    simp e (omega (arith, halve-less F (wantsHalve F upper (turned F halve d)) (d .level) (halve-chosen F upper d e)))
+
+double-falls : (F upper lower : ℕ) (d : Drawing) → wantsHalve F upper d ≡ false → wantsDouble F upper lower d ≡ true → left F upper (turned F double d) < left F upper d
+unfolding turned
+double-falls F upper lower d e f =
+    simp (e, double-holds F upper lower d f) (omega (arith, double-chosen F upper lower d f .above))
+
+-- where the level is lawful and a step stays inside
+pub chosen-falls : (F upper lower : ℕ) (d : Drawing) → d .level ≤ F → d .q + stride F (d .level) ≤ 2 ^ F
+    → left F upper (turned F (chosen F upper lower d) d) < left F upper d
+chosen-falls F upper lower d h k =
+    by-choice F upper lower d (λ op. left F upper (turned F op d) < left F upper d)
+    (halve-falls F upper d)
+    (double-falls F upper lower d)
+    (λ e f. step-falls F upper d h k)

@@ -1,0 +1,18 @@
+-- The point shown is the whole number nearest to d / 65,536: it is p wherever d is less than half a unit from 65,536·p.
+use mathlib.Core.Path.{_≡_}
+use lib.Dec.{lit<}
+use lib.IntN.{ℤ, pos, _+ℤ_, _-ℤ_, _*ℤ_}
+use Rattle.numbers.proofs.Ring.{#, _:+_, _:-_, _:*_, ring}
+use Rattle.numbers.proofs.Order.{nat, _⊕_, gap, certified}
+use Rattle.numbers.proofs.Floor.{floor-is}
+use Rattle.numbers.proofs.Size.{Size, size-bounds}
+use Rattle.engine.specs.declared.Registers.{Registers}
+use Rattle.engine.specs.Shown.{pixel}
+
+pub shows : (r : Registers) (p : ℤ) → Size (r .d -ℤ pos 65536 *ℤ p) 32767 → pixel r ≡ p
+unfolding pixel
+shows r p s =
+    let b = size-bounds s in
+    floor-is (r .d +ℤ pos 32768) p 65536 (lit< tt)
+    (certified (ring 2 (λ d p. (d :+ # 32768 :- # 65536 :* p, (d :- # 65536 :* p :- (# 0 :- # 32767)) :+ # 1)) tt (r .d) p) (gap (b .0) ⊕ nat 1))
+    (certified (ring 2 (λ d p. (# 65536 :* p :+ # 65536 :- # 1 :- (d :+ # 32768), # 32767 :- (d :- # 65536 :* p))) tt (r .d) p) (gap (b .1)))
