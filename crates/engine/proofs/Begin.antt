@@ -9,7 +9,7 @@ use Rattle.numbers.proofs.Ring.{Ex, #, _:+_, _:-_, _:*_, ring}
 use Rattle.numbers.proofs.Floor.{floor-plus, floor-floor}
 use Rattle.numbers.proofs.Size.{Size}
 use Rattle.numbers.proofs.Tests.{and-true}
-use Rattle.rules.specs.Rules.{isCoordinate, areNeighbours}
+use Rattle.rules.specs.Rules.{isCoordinate, areNeighbours, reach}
 use Rattle.rules.proofs.Laws.{coordinate-size, neighbours-size}
 use Rattle.engine.specs.declared.Control.{Control}
 use Rattle.engine.specs.declared.Registers.{Registers}
@@ -19,15 +19,21 @@ use Rattle.engine.specs.Start.{areCoordinates, areNear}
 
 -- ---- lawful control points
 
-pub record Points (p : Control) : Type 0 where
-  pub p0 : Size (p .p0) 16384
-  pub p1 : Size (p .p1) 16384
-  pub p2 : Size (p .p2) 16384
-  pub p3 : Size (p .p3) 16384
+-- how far the points are from 0, and neighbours from each other
+pub record Extent (H : ℕ) (p : Control) : Type 0 where
+  pub p0 : Size (p .p0) H
+  pub p1 : Size (p .p1) H
+  pub p2 : Size (p .p2) H
+  pub p3 : Size (p .p3) H
 
-pub points : (p : Control) → areCoordinates p ≡ true → Points p
+pub record Reach (W : ℕ) (p : Control) : Type 0 where
+  pub first : Size (p .p1 -ℤ p .p0) W
+  pub second : Size (p .p2 -ℤ p .p1) W
+  pub third : Size (p .p3 -ℤ p .p2) W
+
+pub extent : (p : Control) → areCoordinates p ≡ true → Extent 16384 p
 unfolding areCoordinates
-points p e =
+extent p e =
     let c0 = isCoordinate (p .p0) in
     let c1 = isCoordinate (p .p1) in
     let c2 = isCoordinate (p .p2) in
@@ -42,14 +48,9 @@ points p e =
       p3 = coordinate-size (p .p3) (three .1);
     }
 
-pub record Steps (p : Control) : Type 0 where
-  pub first : Size (p .p1 -ℤ p .p0) 682
-  pub second : Size (p .p2 -ℤ p .p1) 682
-  pub third : Size (p .p3 -ℤ p .p2) 682
-
-pub steps : (p : Control) → areNear p ≡ true → Steps p
+pub reaches : (p : Control) → areNear p ≡ true → Reach reach p
 unfolding areNear
-steps p e =
+reaches p e =
     let n1 = areNeighbours (p .p0) (p .p1) in
     let n2 = areNeighbours (p .p1) (p .p2) in
     let n3 = areNeighbours (p .p2) (p .p3) in
@@ -82,18 +83,21 @@ reckoned n p =
       d = unit *ℤ p .p0;
     }
 
--- the same as expressions, and A and B
+-- the same as expressions, and A, B and C
 abbrev cubicE : Ex → Ex → Ex → Ex → Ex
 cubicE p0 p1 p2 p3 = # 65536 :* ((p3 :- p2) :- # 2 :* (p2 :- p1) :+ (p1 :- p0))
 
 abbrev squareE : Ex → Ex → Ex → Ex
 squareE p0 p1 p2 = # 65536 :* (# 3 :* ((p2 :- p1) :- (p1 :- p0)))
 
-abbrev thirdE : Ex → Ex → Ex → Ex → Ex
+abbrev pub thirdE : Ex → Ex → Ex → Ex → Ex
 thirdE p0 p1 p2 p3 = p3 :- # 3 :* p2 :+ # 3 :* p1 :- p0
 
-abbrev secondE : Ex → Ex → Ex → Ex
+abbrev pub secondE : Ex → Ex → Ex → Ex
 secondE p0 p1 p2 = # 3 :* (p2 :- # 2 :* p1 :+ p0)
+
+abbrev pub firstE : Ex → Ex → Ex
+firstE p0 p1 = # 3 :* (p1 :- p0)
 
 -- two floors by 2^n are one by 2^(2n)
 nested : (n : ℕ) (l s k : ℤ) → l +ℤ ((s +ℤ (k >> n)) >> n) ≡ (pos (2 ^ n) *ℤ (pos (2 ^ n) *ℤ l +ℤ s) +ℤ k) >> (n + n)
@@ -126,6 +130,6 @@ reckoned-start n p =
     whole =
         rw (pow-add 2 n n)
         (ring 5 (λ m p0 p1 p2 p3. (
-          m :* (m :* (# 65536 :* (# 3 :* (p1 :- p0))) :+ squareE p0 p1 p2) :+ cubicE p0 p1 p2 p3,
-          # 65536 :* (# 3 :* (p1 :- p0) :* (m :* m) :+ secondE p0 p1 p2 :* m :+ thirdE p0 p1 p2 p3),
+          m :* (m :* (# 65536 :* firstE p0 p1) :+ squareE p0 p1 p2) :+ cubicE p0 p1 p2 p3,
+          # 65536 :* (firstE p0 p1 :* (m :* m) :+ secondE p0 p1 p2 :* m :+ thirdE p0 p1 p2 p3),
         )) tt (pos (2 ^ n)) (p .p0) (p .p1) (p .p2) (p .p3))

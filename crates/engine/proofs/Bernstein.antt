@@ -1,12 +1,13 @@
 -- The coefficients A, B, C, D are those of the cubic with these control points: Bernstein's form, with t = 2^F − q still to go.
-use mathlib.Core.Path.{_≡_, sym, ap, _∙_, subst}
+use mathlib.Core.Path.{_≡_, ap, _∙_}
 use Prim.Native.Nat.{ℕ, _+_, _*_, _^_}
 use native.Mathlib.Omega.{arith}
 use lib.Pow.{pow-add}
-use lib.IntN.{ℤ, pos, _+ℤ_, _-ℤ_, _*ℤ_}
+use lib.IntN.{pos, _+ℤ_, _*ℤ_}
 use Rattle.numbers.proofs.Ring.{#, _:+_, _:-_, _:*_, ring}
 use Rattle.engine.specs.declared.Control.{Control}
-use Rattle.engine.specs.Curve.{Curve, curve, exact}
+use Rattle.engine.specs.Curve.{curve, exact}
+use Rattle.engine.proofs.Begin.{thirdE, secondE, firstE}
 
 pub square : (F : ℕ) → 2 ^ (2 * F) ≡ 2 ^ F * 2 ^ F
 square F = ap (λ (k : ℕ). 2 ^ k) (twice F) ∙ pow-add 2 F F
@@ -27,9 +28,9 @@ unfolding exact curve
 bernstein F p q t e =
     rw (square F, cube F, ← e)
     (ring 6 (λ q t p0 p1 p2 p3. (
-      (p3 :- # 3 :* p2 :+ # 3 :* p1 :- p0) :* (q :* q :* q)
-          :+ # 3 :* (p2 :- # 2 :* p1 :+ p0) :* (q :* q :* (q :+ t))
-          :+ # 3 :* (p1 :- p0) :* (q :* ((q :+ t) :* (q :+ t)))
+      thirdE p0 p1 p2 p3 :* (q :* q :* q)
+          :+ secondE p0 p1 p2 :* (q :* q :* (q :+ t))
+          :+ firstE p0 p1 :* (q :* ((q :+ t) :* (q :+ t)))
           :+ p0 :* ((q :+ t) :* (q :+ t) :* (q :+ t)),
       t :* t :* t :* p0 :+ # 3 :* (t :* t :* q) :* p1 :+ # 3 :* (t :* q :* q) :* p2 :+ q :* q :* q :* p3,
     )) tt (pos q) (pos t) (p .p0) (p .p1) (p .p2) (p .p3))
@@ -39,7 +40,7 @@ pub starts : (F : ℕ) (p : Control) → exact F (curve p) 0 ≡ p .p0 *ℤ pos 
 unfolding exact curve
 starts F p =
     ring 7 (λ p0 p1 p2 p3 G S U. (
-      (p3 :- # 3 :* p2 :+ # 3 :* p1 :- p0) :* (# 0 :* # 0 :* # 0) :+ # 3 :* (p2 :- # 2 :* p1 :+ p0) :* (# 0 :* # 0 :* G) :+ # 3 :* (p1 :- p0) :* (# 0 :* S) :+ p0 :* U,
+      thirdE p0 p1 p2 p3 :* (# 0 :* # 0 :* # 0) :+ secondE p0 p1 p2 :* (# 0 :* # 0 :* G) :+ firstE p0 p1 :* (# 0 :* S) :+ p0 :* U,
       p0 :* U,
     )) tt (p .p0) (p .p1) (p .p2) (p .p3) (pos (2 ^ F)) (pos (2 ^ (2 * F))) (pos (2 ^ (3 * F)))
 
@@ -48,6 +49,6 @@ unfolding exact curve
 ends F p =
     rw (square F, cube F)
     (ring 5 (λ p0 p1 p2 p3 G. (
-      (p3 :- # 3 :* p2 :+ # 3 :* p1 :- p0) :* (G :* G :* G) :+ # 3 :* (p2 :- # 2 :* p1 :+ p0) :* (G :* G :* G) :+ # 3 :* (p1 :- p0) :* (G :* (G :* G)) :+ p0 :* (G :* G :* G),
+      thirdE p0 p1 p2 p3 :* (G :* G :* G) :+ secondE p0 p1 p2 :* (G :* G :* G) :+ firstE p0 p1 :* (G :* (G :* G)) :+ p0 :* (G :* G :* G),
       p3 :* (G :* G :* G),
     )) tt (p .p0) (p .p1) (p .p2) (p .p3) (pos (2 ^ F)))

@@ -49,13 +49,13 @@ chordE κ G A B C s q =
 abbrev pub placeE : Ex → Ex → Ex → Ex → Ex → Ex → Ex → Ex
 placeE κ G A B C D q = κ :* G :* (A :* q :* q :* q :+ B :* q :* q :* G :+ C :* q :* G :* G :+ D :* G :* G :* G)
 
-abbrev lagE : Ex → Ex → Ex → Ex
+abbrev pub lagE : Ex → Ex → Ex → Ex
 lagE G c x = c :* G :* G :- x
 
-abbrev missE : Ex → Ex → Ex → Ex
+abbrev pub missE : Ex → Ex → Ex → Ex
 missE G d y = d :* G :* G :* G :- y
 
-abbrev driftE : Ex → Ex → Ex
+abbrev pub driftE : Ex → Ex → Ex
 driftE G q = (q :* q :+ q :* G :- q) :* G :* G
 
 -- ---- one halving, from step 2s to step s at level n: c gives up η, the floor of beta / 4M, and its error grows by 0 to G²

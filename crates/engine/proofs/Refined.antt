@@ -22,10 +22,10 @@ pub record Exactly (κ G : ℕ) (f : Curve) (s q : ℕ) (r : Registers) : Type 0
   pub a : r .a ≡ alpha (pos κ) (f .A) (pos s)
   pub b : r .b ≡ beta (pos κ) (pos G) (f .A) (f .B) (pos s) (pos q)
 
-two-steps : (j : ℕ) → pos (2 ^ suc j) ≡ pos 2 *ℤ pos (2 ^ j)
+pub two-steps : (j : ℕ) → pos (2 ^ suc j) ≡ pos 2 *ℤ pos (2 ^ j)
 two-steps j = ap pos (pow-succ' 2 j)
 
-alpha-twice : (κ A s t : ℤ) → t ≡ pos 2 *ℤ s → alpha κ A t ≡ pos 2 *ℤ alpha κ A s
+pub alpha-twice : (κ A s t : ℤ) → t ≡ pos 2 *ℤ s → alpha κ A t ≡ pos 2 *ℤ alpha κ A s
 alpha-twice κ A s t e = rw e (ring 3 (λ κ A s. (alphaE κ A (# 2 :* s), # 2 :* alphaE κ A s)) tt κ A s)
 
 beta-twice : (κ G A B s t q : ℤ) → t ≡ pos 2 *ℤ s → beta κ G A B t q ≡ beta κ G A B s q +ℤ alpha κ A s

@@ -7,7 +7,7 @@ use borrow.Author.Needs.{needs}
 use Rattle.numbers.proofs.Machine.{Num, known, tighter, literal, local, shift, plus, minus, times, fits}
 use Rattle.engine.specs.declared.Control.{Control}
 use Rattle.engine.specs.Registers.{_>>_, unit}
-use Rattle.engine.proofs.Begin.{Points, points, Steps, steps, cubic, square, linear, reckoned-start}
+use Rattle.engine.proofs.Begin.{Extent, extent, Reach, reaches, cubic, square, linear, reckoned-start}
 use Rattle.engine.proofs.start_one.Statement.{statement}
 use Rattle.engine.proofs.start_one.Tie as tie
 
@@ -17,11 +17,11 @@ p c = c .args .p
 abbrev n : tie.Start → ℕ
 n c = c .args .n
 
-at-points : (c : tie.Start) → Points (p c)
-at-points c = points (p c) (c .pre .1)
+at-points : (c : tie.Start) → Extent 16384 (p c)
+at-points c = extent (p c) (c .pre .1)
 
-of-steps : (c : tie.Start) → Steps (p c)
-of-steps c = steps (p c) (c .pre .2)
+of-steps : (c : tie.Start) → Reach 682 (p c)
+of-steps c = reaches (p c) (c .pre .2)
 
 -- ---- the numbers of the code
 

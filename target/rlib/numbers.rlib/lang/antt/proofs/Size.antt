@@ -25,6 +25,11 @@ pub size-between : {z : ℤ} {m : ℕ} → z ≤ℤ pos m → (pos 0 -ℤ z) ≤
 size-between {z} {m} h k =
     of-parts z m (omega (arith, le-parts h)) (omega (arith, le-parts k, add-parts (pos 0) (negℤ z), neg-parts z))
 
+-- strictly below m in size
+pub size-below : (z : ℤ) (m : ℕ) → z ≤ℤ (pos m -ℤ pos 1) → (pos 0 -ℤ z) ≤ℤ (pos m -ℤ pos 1) → natAbs z < m
+size-below (pos a) m h k = omega (arith, le-parts h, add-parts (pos m) (negsuc 0))
+size-below (negsuc a) m h k = omega (arith, le-parts k, add-parts (pos m) (negsuc 0))
+
 pub size-bounds : {z : ℤ} {m : ℕ} → Size z m → ((pos 0 -ℤ pos m) ≤ℤ z) × (z ≤ℤ pos m)
 size-bounds {z} {m} s =
     let f = size-parts s in

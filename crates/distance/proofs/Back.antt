@@ -1,0 +1,100 @@
+-- Halve and double undo one another: wherever the first is accepted so is the second, and the drawing comes back whole.
+use mathlib.Core.Path.{_≡_, refl, sym, ap, ap₂, _∙_, subst}
+use mathlib.Core.Bool.{Bool, true}
+use Prim.Native.Nat.{ℕ, zero, suc, _+_, _-_, _*_, _%_, _^_, _≤_, _<_}
+use native.Mathlib.Nat.{mul-mod-left, pow-succ'}
+use native.Mathlib.Numerals.{add-one}
+use native.Mathlib.Omega.{arith}
+use lib.Dec.{ltb, eqb}
+use lib.IntN.{pos, _*ℤ_}
+use borrow.Author.Tests.{lt-ltb, eq-eqb, ltb-true}
+use Rattle.rules.specs.Rules.{unless}
+use Rattle.rules.proofs.Laws.{rule-kept}
+use Rattle.engine.specs.declared.Registers.{Registers}
+use Rattle.engine.specs.declared.Drawing.{Drawing}
+use Rattle.engine.specs.declared.Moved.{Moved}
+use Rattle.engine.specs.Curve.{Curve}
+use Rattle.engine.specs.Registers.{halve, double, turn}
+use Rattle.engine.specs.Drawing.{stride, turned, called}
+use Rattle.engine.proofs.Exact.{alpha}
+use Rattle.engine.proofs.Refined.{alpha-twice, two-steps}
+use Rattle.engine.proofs.Back.{halve-after-double, double-after-halve}
+use Rattle.distance.specs.Calls.{ruled, settled}
+use Rattle.distance.proofs.Near.{At}
+use Rattle.distance.proofs.Kept.{Kept, Bounded, stride-below, allowed, kept-turned, call-settled}
+
+-- ---- one coordinate
+
+double-halved : (F : ℕ) (f : Curve) (n j q : ℕ) (r : Registers) → n + j ≡ F → n < F → At F f n j q r → turn double (n + 1) (turn halve n r) ≡ r
+double-halved F f n zero q r e h o = let no : ⊥ = omega arith in absurd no
+double-halved F f n (suc j) q r e h o =
+    let κ = pos (2 ^ (16 - F)) in
+    ap (λ (m : ℕ). turn double m (turn halve n r)) (add-one n)
+    ∙ double-after-halve n r (alpha κ (f .A) (pos (2 ^ j))) (o .exact .a ∙ alpha-twice κ (f .A) (pos (2 ^ j)) (pos (2 ^ suc j)) (two-steps j))
+
+halve-doubled : (n : ℕ) (r : Registers) → 0 < n → turn halve (n - 1) (turn double n r) ≡ r
+halve-doubled zero r h = let no : ⊥ = omega arith in absurd no
+halve-doubled (suc n) r h = ap (λ (m : ℕ). turn halve m (turn double (suc n) r)) (less n) ∙ halve-after-double n r
+  where
+    less : (n : ℕ) → suc n - 1 ≡ n
+    less n = omega arith
+
+-- ---- level and q of the second call
+
+two-finer-strides : (F n j : ℕ) → n + j ≡ F → n < F → 2 * stride F (n + 1) ≡ 2 ^ j
+two-finer-strides F n zero e h = let no : ⊥ = omega arith in absurd no
+two-finer-strides F n (suc j) e h = ap (λ (t : ℕ). 2 * t) (stride-below F (n + 1) j (omega arith)) ∙ sym (pow-succ' 2 j)
+
+double-allowed : (F n j q m : ℕ) → n + j ≡ F → n < F → q < 2 ^ F → q ≡ m * 2 ^ j → ruled F double (n + 1) q ≡ 0
+unfolding ruled
+double-allowed F n j q m e h before w =
+    let end = lt-ltb q (2 ^ F) before in
+    let above = lt-ltb 0 (n + 1) (omega arith) in
+    let even = eq-eqb (q % (2 * stride F (n + 1))) 0 (ap₂ (λ (u v : ℕ). u % v) w (two-finer-strides F n j e h) ∙ mul-mod-left m (2 ^ j)) in
+    λ i. unless (end i) 5 (unless (above i) 7 (unless (even i) 8 0))
+
+halve-allowed : (F n q : ℕ) → 0 < n → n ≤ F → q < 2 ^ F → ruled F halve (n - 1) q ≡ 0
+unfolding ruled
+halve-allowed F n q h k before =
+    let end = lt-ltb q (2 ^ F) before in
+    let below = lt-ltb (n - 1) F (omega arith) in
+    λ i. unless (end i) 5 (unless (below i) 6 0)
+
+-- ---- the drawing
+
+module _ (F : ℕ) (x y : Curve) (fx : Bounded F x) (fy : Bounded F y) (d : Drawing) (k : Kept F x y d) where
+  pub double-undoes-halve : ruled F halve (d .level) (d .q) ≡ 0 → called F double (called F halve d .drawing) ≡ record { refusal = 0; drawing = d }
+  unfolding turned
+  double-undoes-halve e =
+      let n = d .level in
+      let before = allowed F halve n (d .q) e .0 in
+      let h = ltb-true n F (rule-kept (ltb n F) 5 0 (allowed F halve n (d .q) e .1) .0) in
+      let first : called F halve d ≡ record { refusal = 0; drawing = turned F halve d } =
+      call-settled F x y fx fy d halve k ∙ ap (λ (m : ℕ). settled m d (turned F halve d)) e in
+      let again : called F double (turned F halve d) ≡ record { refusal = 0; drawing = turned F double (turned F halve d) } =
+      call-settled F x y fx fy (turned F halve d) double (kept-turned F x y d halve k e)
+      ∙ ap (λ (m : ℕ). settled m (turned F halve d) (turned F double (turned F halve d))) (double-allowed F n (k .below) (d .q) (k .on-x .strides) (k .levels) h before (k .on-x .whole)) in
+      let level : n + 1 - 1 ≡ n = omega arith in
+      let in-x = double-halved F x n (k .below) (d .q) (d .x) (k .levels) h (k .on-x) in
+      let in-y = double-halved F y n (k .below) (d .q) (d .y) (k .levels) h (k .on-y) in
+      ap (λ (m : Moved). called F double (m .drawing)) first
+      ∙ again
+      ∙ (λ i. record { refusal = 0; drawing = record { level = level i; q = d .q; x = in-x i; y = in-y i } })
+
+  pub halve-undoes-double : ruled F double (d .level) (d .q) ≡ 0 → called F halve (called F double d .drawing) ≡ record { refusal = 0; drawing = d }
+  unfolding turned
+  halve-undoes-double e =
+      let n = d .level in
+      let before = allowed F double n (d .q) e .0 in
+      let h = ltb-true 0 n (rule-kept (ltb 0 n) 6 (unless (eqb (d .q % (2 * stride F n)) 0) 8 0) (allowed F double n (d .q) e .1) .0) in
+      let first : called F double d ≡ record { refusal = 0; drawing = turned F double d } =
+      call-settled F x y fx fy d double k ∙ ap (λ (m : ℕ). settled m d (turned F double d)) e in
+      let again : called F halve (turned F double d) ≡ record { refusal = 0; drawing = turned F halve (turned F double d) } =
+      call-settled F x y fx fy (turned F double d) halve (kept-turned F x y d double k e)
+      ∙ ap (λ (m : ℕ). settled m (turned F double d) (turned F halve (turned F double d))) (halve-allowed F n (d .q) h (omega (arith, k .levels)) before) in
+      let level : n - 1 + 1 ≡ n = omega arith in
+      let in-x = halve-doubled n (d .x) h in
+      let in-y = halve-doubled n (d .y) h in
+      ap (λ (m : Moved). called F halve (m .drawing)) first
+      ∙ again
+      ∙ (λ i. record { refusal = 0; drawing = record { level = level i; q = d .q; x = in-x i; y = in-y i } })

@@ -1,0 +1,73 @@
+-- Every list of calls from an accepted start: the invariant holds of the drawing reached, and q is the sum of the steps taken.
+use mathlib.Core.Path.{_≡_, refl, sym, ap, _∙_, subst}
+use mathlib.Core.Bool.{Bool, cond}
+use mathlib.Core.List.{List, [], _∷_}
+use Prim.Native.Nat.{ℕ, zero, suc, _+_, _-_, _*_, _^_, _≤_}
+use native.Mathlib.Nat.{add-zero, zero-add, add-assoc, add-sub-of-le}
+use native.Mathlib.Omega.{arith}
+use lib.Dec.{eqb, eqb·suc-zero}
+use lib.Pow.{pow-add}
+use Rattle.engine.specs.declared.Drawing.{Drawing}
+use Rattle.engine.specs.declared.Control.{Control}
+use Rattle.engine.specs.declared.Moved.{Moved}
+use Rattle.engine.specs.Curve.{Curve, curve}
+use Rattle.engine.specs.Registers.{Operation, halve, double, step}
+use Rattle.engine.specs.Drawing.{stride, turned, newPosition, called}
+use Rattle.engine.specs.Start.{startRefusal, firstDrawing, started}
+use Rattle.engine.proofs.Gates.{Accepted, accepted, start-begins}
+use Rattle.engine.proofs.Turns.{start-on}
+use Rattle.distance.specs.Calls.{after, gain, travelled, ruled, settled}
+use Rattle.distance.proofs.Near.{scale}
+use Rattle.distance.proofs.Kept.{Kept, Bounded, kept-turned, call-settled}
+
+-- ---- the start
+
+pub first-kept : (F : ℕ) (x y : Control) (n : ℕ) → F ≤ 16 → n ≤ F → Kept F (curve x) (curve y) (firstDrawing x y n)
+first-kept F x y n h l =
+    let levels : n + (F - n) ≡ F = add-sub-of-le l in
+    let G : 2 ^ F ≡ 2 ^ n * 2 ^ (F - n) = ap (λ (k : ℕ). 2 ^ k) (sym levels) ∙ pow-add 2 n (F - n) in
+    record {
+      below = F - n;
+      levels = levels;
+      on-x = start-on (2 ^ (16 - F)) (2 ^ F) (curve x) n (F - n) (scale F h) G;
+      on-y = start-on (2 ^ (16 - F)) (2 ^ F) (curve y) n (F - n) (scale F h) G;
+    }
+
+-- ---- one call and lists of calls
+
+module _ (F : ℕ) (x y : Curve) (fx : Bounded F x) (fy : Bounded F y) where
+  settled-kept : (k : ℕ) (old new : Drawing) → Kept F x y old → (k ≡ 0 → Kept F x y new) → Kept F x y (settled k old new .drawing)
+  settled-kept zero old new h g = g refl
+  settled-kept (suc k) old new h g = h
+
+  call-kept : (d : Drawing) (op : Operation) → Kept F x y d → Kept F x y (called F op d .drawing)
+  call-kept d op k =
+      subst (λ (m : Moved). Kept F x y (m .drawing)) (sym (call-settled F x y fx fy d op k))
+      (settled-kept (ruled F op (d .level) (d .q)) d (turned F op d) k (kept-turned F x y d op k))
+
+  pub after-kept : (ops : List Operation) (d : Drawing) → Kept F x y d → Kept F x y (after F ops d)
+  after-kept [] d k = k
+  after-kept (op ∷ ops) d k = after-kept ops (called F op d .drawing) (call-kept d op k)
+
+  -- a call adds its gain to q
+  settled-still : (k : ℕ) (old new : Drawing) → new .q ≡ old .q → settled k old new .drawing .q ≡ old .q + 0
+  settled-still zero old new e = e ∙ sym (add-zero (old .q))
+  settled-still (suc k) old new e = sym (add-zero (old .q))
+
+  settled-gain : (k s : ℕ) (old new : Drawing) → new .q ≡ old .q + s
+      → settled k old new .drawing .q ≡ old .q + cond (eqb (settled k old new .refusal) 0) s 0
+  settled-gain zero s old new e = e
+  settled-gain (suc k) s old new e = sym (add-zero (old .q)) ∙ ap (λ (b : Bool). old .q + cond b s 0) (sym (eqb·suc-zero k))
+
+  call-gain : (d : Drawing) (op : Operation) → Kept F x y d → called F op d .drawing .q ≡ d .q + gain F op d
+  unfolding turned
+  call-gain d halve k = rw (call-settled F x y fx fy d halve k) (settled-still (ruled F halve (d .level) (d .q)) d (turned F halve d) refl)
+  call-gain d double k = rw (call-settled F x y fx fy d double k) (settled-still (ruled F double (d .level) (d .q)) d (turned F double d) refl)
+  call-gain d step k = rw (call-settled F x y fx fy d step k) (settled-gain (ruled F step (d .level) (d .q)) (stride F (d .level)) d (turned F step d) refl)
+
+  pub after-travelled : (ops : List Operation) (d : Drawing) → Kept F x y d → after F ops d .q ≡ d .q + travelled F ops d
+  after-travelled [] d k = sym (add-zero (d .q))
+  after-travelled (op ∷ ops) d k =
+      after-travelled ops (called F op d .drawing) (call-kept d op k)
+      ∙ ap (λ (t : ℕ). t + travelled F ops (called F op d .drawing)) (call-gain d op k)
+      ∙ add-assoc (d .q) (gain F op d) (travelled F ops (called F op d .drawing))

@@ -1,0 +1,43 @@
+-- The operation that choosing names is never refused in a drawing that keeps the invariant, under any lawful limits.
+use mathlib.Core.Path.{_≡_, refl, sym, ap, _∙_}
+use mathlib.Core.Bool.{Bool, true}
+use Prim.Native.Nat.{ℕ, _*_, _%_, _^_, _<_}
+use lib.Dec.{ltb, eqb}
+use borrow.Author.Tests.{lt-ltb, eq-eqb}
+use Rattle.rules.specs.Rules.{unless, areLimits}
+use Rattle.engine.specs.declared.Drawing.{Drawing}
+use Rattle.engine.specs.declared.Moved.{Moved}
+use Rattle.engine.specs.Curve.{Curve}
+use Rattle.engine.specs.Registers.{Operation, halve, double, step}
+use Rattle.engine.specs.Drawing.{stride, isDrawing, gated, turned, called}
+use Rattle.engine.specs.Choice.{chosen, choiceRefusal, says, replied, choice}
+use Rattle.engine.proofs.Ends.{by-choice, halve-chosen, double-chosen}
+use Rattle.distance.specs.Calls.{ruled, settled}
+use Rattle.distance.proofs.Kept.{Kept, Bounded, kept-inside, call-settled}
+
+-- of any drawing before its end
+pub chosen-ruled : (F upper lower : ℕ) (d : Drawing) → d .q < 2 ^ F → ruled F (chosen F upper lower d) (d .level) (d .q) ≡ 0
+unfolding ruled
+chosen-ruled F upper lower d h =
+    let end = lt-ltb (d .q) (2 ^ F) h in
+    by-choice F upper lower d (λ (op : Operation). ruled F op (d .level) (d .q) ≡ 0)
+    (λ e. let below = lt-ltb (d .level) F (halve-chosen F upper d e) in λ i. unless (end i) 5 (unless (below i) 6 0))
+    (λ e f.
+    let c = double-chosen F upper lower d f in
+    let above = lt-ltb 0 (d .level) (c .above) in
+    let even = eq-eqb (d .q % (2 * stride F (d .level))) 0 (c .aligned) in
+    λ i. unless (end i) 5 (unless (above i) 7 (unless (even i) 8 0)))
+    (λ e f i. unless (end i) 5 0)
+
+module _ (F : ℕ) (x y : Curve) (fx : Bounded F x) (fy : Bounded F y) (d : Drawing) (k : Kept F x y d) (upper lower : ℕ) where
+  pub choice-answers : areLimits upper lower ≡ true → d .q < 2 ^ F → choice F upper lower d ≡ says (chosen F upper lower d)
+  unfolding choice choiceRefusal gated
+  choice-answers l h =
+      let inside = kept-inside F x y d k in
+      let end = lt-ltb (d .q) (2 ^ F) h in
+      λ i. replied (unless (l i) 4 (unless (inside i) 10 (unless (end i) 5 0))) (chosen F upper lower d)
+
+  pub chosen-accepted : d .q < 2 ^ F → called F (chosen F upper lower d) d ≡ record { refusal = 0; drawing = turned F (chosen F upper lower d) d }
+  chosen-accepted h =
+      let op = chosen F upper lower d in
+      call-settled F x y fx fy d op k ∙ ap (λ (m : ℕ). settled m d (turned F op d)) (chosen-ruled F upper lower d h)
