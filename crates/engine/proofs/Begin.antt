@@ -1,19 +1,21 @@
 -- The start, by the differences of neighbours and with nested floors, as the code reckons it.
 use mathlib.Core.Path.{_≡_, sym, ap, ap₂, _∙_}
 use mathlib.Core.Bool.{true, _&&_}
-use Prim.Native.Nat.{ℕ, _+_, _*_, _^_}
+use Prim.Native.Nat.{ℕ, _+_, _-_, _*_, _^_, _≤_}
+use native.Mathlib.Omega.{arith}
 use lib.IntN.{ℤ, pos, _+ℤ_, _-ℤ_, _*ℤ_}
 use lib.Pow.{pow-pos, pow-add}
 use lib.Signed.{shrZ}
 use Rattle.numbers.proofs.Ring.{Ex, #, _:+_, _:-_, _:*_, ring}
-use Rattle.numbers.proofs.Floor.{floor-plus, floor-floor}
+use Rattle.numbers.proofs.Parts.{*ℤ-assoc}
+use Rattle.numbers.proofs.Floor.{floor-plus, floor-floor, floor-multiple}
 use Rattle.numbers.proofs.Size.{Size}
 use Rattle.numbers.proofs.Tests.{and-true}
 use Rattle.rules.specs.Rules.{isCoordinate, areNeighbours, reach}
 use Rattle.rules.proofs.Laws.{coordinate-size, neighbours-size}
 use Rattle.engine.specs.declared.Control.{Control}
 use Rattle.engine.specs.declared.Registers.{Registers}
-use Rattle.engine.specs.Curve.{curve}
+use Rattle.engine.specs.Curve.{Curve, curve}
 use Rattle.engine.specs.Registers.{_>>_, unit, startRegisters}
 use Rattle.engine.specs.Start.{areCoordinates, areNear}
 
@@ -62,7 +64,18 @@ reaches p e =
       third = neighbours-size (p .p2) (p .p3) (two .1);
     }
 
--- ---- the registers
+-- ---- the start's a is whole: 65,536·6A·δ with no floor, and so is b
+
+pub start-is-whole : (n : ℕ) (f : Curve) → n ≤ 16 → pos (2 ^ n) *ℤ startRegisters n f .a ≡ unit *ℤ (pos 6 *ℤ f .A)
+unfolding startRegisters
+start-is-whole n f h =
+    let rest = pos (2 ^ (16 - n)) *ℤ (pos 6 *ℤ f .A) in
+    let parts : 16 ≡ n + (16 - n) = omega arith in
+    let e : unit *ℤ (pos 6 *ℤ f .A) ≡ pos (2 ^ n) *ℤ rest =
+    ap (λ (k : ℕ). pos k *ℤ (pos 6 *ℤ f .A)) (ap (λ (k : ℕ). 2 ^ k) parts ∙ pow-add 2 n (16 - n)) ∙ *ℤ-assoc (pos (2 ^ n)) (pos (2 ^ (16 - n))) (pos 6 *ℤ f .A) in
+    ap (λ (z : ℤ). pos (2 ^ n) *ℤ z) (ap (λ (z : ℤ). z >> n) e ∙ floor-multiple rest (2 ^ n) (pow-pos n)) ∙ sym e
+
+-- ---- the registers, as the code reckons them
 
 -- 65,536·A, 65,536·B and 65,536·C by the differences
 abbrev pub cubic : Control → ℤ

@@ -53,7 +53,7 @@ pub record Holds (w : Row) : Type 0 where
   pub b : Agrees (w .b) (reached w .drawing .x .b)
   pub c : Agrees (w .c) (reached w .drawing .x .c)
   pub d : Agrees (w .d) (reached w .drawing .x .d)
-  pub y : reached w .drawing .y .c ≡ pos 0
+  pub y : reached w .drawing .y ≡ zeros
 
 -- ---- the table
 
@@ -122,7 +122,10 @@ tests w =
     ∷ agrees eqbℤ (w .b) (reached w .drawing .x .b)
     ∷ agrees eqbℤ (w .c) (reached w .drawing .x .c)
     ∷ agrees eqbℤ (w .d) (reached w .drawing .x .d)
+    ∷ eqbℤ (reached w .drawing .y .a) (pos 0)
+    ∷ eqbℤ (reached w .drawing .y .b) (pos 0)
     ∷ eqbℤ (reached w .drawing .y .c) (pos 0)
+    ∷ eqbℤ (reached w .drawing .y .d) (pos 0)
     ∷ []
 
 abbrev right : Row → Bool
@@ -132,6 +135,7 @@ right-holds : (w : Row) → T (right w) → Holds w
 right-holds w t =
     let m = reached w in
     let r = m .drawing .x in
+    let y = m .drawing .y in
     let ts = tested T (λ (b : Bool). b) (λ (b : Bool) t. t) (tests w) t in
     record {
       refusal = eqb→eq (m .refusal) (w .refusal) (ts .0);
@@ -140,7 +144,14 @@ right-holds w t =
       b = agreed eqbℤ eqbℤ→eq (w .b) (r .b) (ts .1 .1 .1 .0);
       c = agreed eqbℤ eqbℤ→eq (w .c) (r .c) (ts .1 .1 .1 .1 .0);
       d = agreed eqbℤ eqbℤ→eq (w .d) (r .d) (ts .1 .1 .1 .1 .1 .0);
-      y = eqbℤ→eq (m .drawing .y .c) (pos 0) (ts .1 .1 .1 .1 .1 .1 .0);
+      y =
+          let u = ts .1 .1 .1 .1 .1 .1 in
+          λ i. record {
+            a = eqbℤ→eq (y .a) (pos 0) (u .0) i;
+            b = eqbℤ→eq (y .b) (pos 0) (u .1 .0) i;
+            c = eqbℤ→eq (y .c) (pos 0) (u .1 .1 .0) i;
+            d = eqbℤ→eq (y .d) (pos 0) (u .1 .1 .1 .0) i;
+          };
     }
 
 pub starred : All Holds table

@@ -67,6 +67,10 @@ double-chosen F upper lower d e =
       y = leb-true (doubledIncrement n (d .y)) upper (both .1);
     }
 
+-- its doubled increments are those of a lawful level
+pub doubled-whole : (F upper lower : ℕ) (d : Drawing) → wantsDouble F upper lower d ≡ true → d .level - 1 + 1 ≡ d .level
+doubled-whole F upper lower d e = omega (arith, double-chosen F upper lower d e .above)
+
 -- after a chosen double the upper test does not ask to halve
 pub double-holds : (F upper lower : ℕ) (d : Drawing) → wantsDouble F upper lower d ≡ true → wantsHalve F upper (turned F double d) ≡ false
 unfolding wantsHalve turned doubledIncrement

@@ -14,7 +14,7 @@ use Rattle.rules.proofs.Laws.{rule-kept}
 use Rattle.engine.specs.declared.Drawing.{Drawing}
 use Rattle.engine.specs.declared.Control.{Control}
 use Rattle.engine.specs.declared.Moved.{Moved}
-use Rattle.engine.specs.Registers.{Operation}
+use Rattle.engine.specs.Registers.{Operation, double}
 use Rattle.engine.specs.Drawing.{stride, isDrawing, ownRefusal, gated, callRefusal, turned, refused, landed, answered, called}
 use Rattle.engine.specs.Choice.{Said, chosen, replied, choiceRefusal, choice}
 use Rattle.engine.specs.Start.{areCoordinates, areNear, startRefusal, nothingDrawn, begun, firstDrawing, started}
@@ -82,6 +82,21 @@ pub two-strides : (n : ℕ) → n ≤ 11 → 4096 / 2 ^ n ≡ 2 * stride 11 n
 two-strides n h =
     let e : 12 - n ≡ 1 + (11 - n) = omega arith in
     pow-shift 12 n (omega arith) ∙ ap (λ (j : ℕ). 2 ^ j) e ∙ pow-add 2 1 (11 - n)
+
+-- ---- nothing is cut off where specs/ subtract: the step s times 2^n is the whole, and a double starts above level 0
+
+pub stride-whole : (F n q : ℕ) → isDrawing F n q ≡ true → stride F n * 2 ^ n ≡ 2 ^ F
+stride-whole F n q e =
+    let h = inside F n q e .level in
+    let whole : F - n + n ≡ F = omega arith in
+    sym (pow-add 2 (F - n) n) ∙ ap (λ (k : ℕ). 2 ^ k) whole
+
+pub double-whole : (F n q : ℕ) → callRefusal F double n q ≡ 0 → n - 1 + 1 ≡ n
+unfolding callRefusal
+double-whole F n q e =
+    let own = opens F n q (ownRefusal F double n q) e .1 in
+    let above = ltb-true 0 n (rule-kept (ltb 0 n) 6 (unless (eqb (q % (2 * stride F n)) 0) 8 0) own .0) in
+    omega arith
 
 -- ---- the two ways of an answer
 

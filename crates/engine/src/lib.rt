@@ -268,10 +268,12 @@ fn is_drawing(level: u32, q: u32) -> bool
 fn gate(level: u32, q: u32) -> u32
     ensures { λ r. ⌜ r ≡ gated finest level q 0 ⌝ }
 {
-    if !is_drawing(level, q) {
+    let outside = !is_drawing(level, q);
+    let ended = q >= 2048;
+    if outside {
         return 10;
     }
-    if q >= 2048 {
+    if ended {
         return 5;
     }
     0
@@ -333,14 +335,18 @@ fn halve_one(r: Registers, n: u32) -> Wide
     ensures { λ w. ⌜ narrowed w ≡ turn halve n r ⌝ }
 {
     let old = widen(r);
-    let a = old.a >> 1;
-    let b = old.b - a;
-    let c = old.c - (b >> (n + 2));
+    let a = old.a;
+    let b = old.b;
+    let c = old.c;
+    let d = old.d;
+    let new_a = a >> 1;
+    let new_b = b - new_a;
+    let new_c = c - (new_b >> (n + 2));
     Wide {
-        a: a,
-        b: b,
-        c: c,
-        d: old.d,
+        a: new_a,
+        b: new_b,
+        c: new_c,
+        d: d,
     }
 }
 
@@ -349,14 +355,18 @@ fn double_one(r: Registers, n: u32) -> Wide
     ensures { λ w. ⌜ narrowed w ≡ turn double n r ⌝ }
 {
     let old = widen(r);
-    let a = 2 * old.a;
-    let b = old.b + old.a;
-    let c = old.c + (old.b >> (n + 1));
+    let a = old.a;
+    let b = old.b;
+    let c = old.c;
+    let d = old.d;
+    let new_a = 2 * a;
+    let new_b = b + a;
+    let new_c = c + (b >> (n + 1));
     Wide {
-        a: a,
-        b: b,
-        c: c,
-        d: old.d,
+        a: new_a,
+        b: new_b,
+        c: new_c,
+        d: d,
     }
 }
 
@@ -365,14 +375,18 @@ fn step_one(r: Registers, n: u32) -> Wide
     ensures { λ w. ⌜ narrowed w ≡ turn step n r ⌝ }
 {
     let old = widen(r);
-    let b = old.b + old.a;
-    let c = old.c + (old.b >> n);
-    let d = old.d + (old.c >> n);
+    let a = old.a;
+    let b = old.b;
+    let c = old.c;
+    let d = old.d;
+    let new_b = b + a;
+    let new_c = c + (b >> n);
+    let new_d = d + (c >> n);
     Wide {
-        a: old.a,
-        b: b,
-        c: c,
-        d: d,
+        a: a,
+        b: new_b,
+        c: new_c,
+        d: new_d,
     }
 }
 

@@ -1,2 +1,3 @@
 -- Laws of the rules, for the crates that cite them.
 pub mod Laws
+pub mod Cases

@@ -1,4 +1,4 @@
-use Prim.Native.Nat.{_+_}
+use Prim.Native.Nat.{ℕ, _+_}
 use lib.IntN.{pos, _+ℤ_, _*ℤ_}
 use mir.Syntax.{w64}
 use borrow.Author.Needs.{needs}
@@ -9,47 +9,53 @@ use Rattle.engine.proofs.Fitting.{Widened, widened, told}
 use Rattle.engine.proofs.double_one.Statement.{statement}
 use Rattle.engine.proofs.double_one.Tie as tie
 
-abbrev r : tie.After-widen → Registers
-r c = c .before .args .r
+abbrev start : tie.After-struct-told4 → tie.Start
+start c = c .before .before .before .before .before
 
-abbrev old : (c : tie.After-widen) → Widened (c .widen .result) (r c)
-old c = widened (c .widen .result) (r c) (told (c .before .good .0 .1 .1)) (c .widen .ensures)
+abbrev r : tie.After-struct-told4 → Registers
+r c = start c .args .r
 
-abbrev new-a : (c : tie.After-widen) → Num 4294967296 (pos 2 *ℤ r c .a)
+abbrev n : tie.After-struct-told4 → ℕ
+n c = start c .args .n
+
+abbrev old : (c : tie.After-struct-told4) → Widened (c .before .before .before .before .widen .result) (r c)
+old c = widened _ (r c) (told (start c .good .0 .1 .1)) (c .before .before .before .before .widen .ensures)
+
+abbrev new-a : (c : tie.After-struct-told4) → Num 4294967296 (pos 2 *ℤ r c .a)
 new-a c = times (literal 2) (old c .a)
 
-abbrev new-b : (c : tie.After-widen) → Num 4294967296 (r c .b +ℤ r c .a)
+abbrev new-b : (c : tie.After-struct-told4) → Num 4294967296 (r c .b +ℤ r c .a)
 new-b c = plus (old c .b) (old c .a)
 
-abbrev new-c : (c : tie.After-widen) → Num 4294967296 (r c .c +ℤ (r c .b >> (c .before .args .n + 1)))
-new-c c = plus (old c .c) (local w64 tt (shift (c .before .args .n + 1) (old c .b)))
+abbrev new-c : (c : tie.After-struct-told4) → Num 4294967296 (r c .c +ℤ (r c .b >> (n c + 1)))
+new-c c = plus (old c .c) (local w64 tt (shift (n c + 1) (old c .b)))
 
 widen-requires : tie.Need-widen-requires
 widen-requires c κs = search needs
 
-mul-a : tie.Need-mul-a
-mul-a c = fits tt (new-a (c .before .before))
+mul-new-a : tie.Need-mul-new-a
+mul-new-a c = fits tt (new-a c)
 
-add-b : tie.Need-add-b
-add-b c = fits tt (new-b (c .before .before .before .before))
+add-new-b : tie.Need-add-new-b
+add-new-b c = fits tt (new-b c)
 
-add-c : tie.Need-add-c
-add-c c = search needs
+add-new-c : tie.Need-add-new-c
+add-new-c c = search needs
 
-cast-c : tie.Need-cast-c
-cast-c c = search needs
+cast-new-c : tie.Need-cast-new-c
+cast-new-c c = search needs
 
-shr-c : tie.Need-shr-c
-shr-c c = search needs
+shr-new-c : tie.Need-shr-new-c
+shr-new-c c = search needs
 
-add-c-2 : tie.Need-add-c-2
-add-c-2 c = fits tt (new-c (c .before .before .before .before .before .before .before .before))
+add-new-c-2 : tie.Need-add-new-c-2
+add-new-c-2 c = fits tt (new-c c)
 
 returns : tie.Need-returns
 unfolding turn
 returns c =
-    let w = c .before .before .before .before .before .before .before .before .before in
-    λ i. record { a = local w64 tt (new-a w) .is i; b = local w64 tt (new-b w) .is i; c = local w64 tt (new-c w) .is i; d = old w .d .is i }
+    λ i. record { a = local w64 tt (new-a c) .is i; b = local w64 tt (new-b c) .is i; c = local w64 tt (new-c c) .is i; d = old c .d .is i }
 
 pub double-one-spec : {M : Type 1} → statement M
-double-one-spec = tie.close (tie.spec widen-requires mul-a add-b add-c cast-c shr-c add-c-2 returns)
+double-one-spec =
+    tie.close (tie.spec widen-requires mul-new-a add-new-b add-new-c cast-new-c shr-new-c add-new-c-2 returns)

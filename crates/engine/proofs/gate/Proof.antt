@@ -1,6 +1,6 @@
 use mathlib.Core.Path.{sym, _∙_}
 use borrow.Author.Needs.{needs}
-use borrow.Author.Tests.{le-ltb, lt-ltb, not-true, not-false}
+use borrow.Author.Tests.{le-ltb, lt-ltb, leb-true, leb-false, not-true, not-false}
 use Rattle.engine.specs.Drawing.{gated}
 use Rattle.engine.proofs.gate.Statement.{statement}
 use Rattle.engine.proofs.gate.Tie as tie
@@ -14,11 +14,13 @@ returns c = simp (sym (c .before .is-drawing .ensures) ∙ not-true _ (c .if1 .t
 
 returns-2 : tie.Need-returns-2
 unfolding gated
-returns-2 c = simp (sym (c .before .before .is-drawing .ensures) ∙ not-false _ (c .before .if1 .left), le-ltb _ _ (c .if2 .taken))
+returns-2 c =
+    simp (sym (c .before .before .is-drawing .ensures) ∙ not-false _ (c .before .if1 .left), le-ltb _ _ (leb-true 2048 (c .before .before .before .args .q) (c .if2 .taken)))
 
 returns-3 : tie.Need-returns-3
 unfolding gated
-returns-3 c = simp (sym (c .before .before .is-drawing .ensures) ∙ not-false _ (c .before .if1 .left), lt-ltb _ _ (c .if2 .left))
+returns-3 c =
+    simp (sym (c .before .before .is-drawing .ensures) ∙ not-false _ (c .before .if1 .left), lt-ltb _ _ (leb-false 2048 (c .before .before .before .args .q) (c .if2 .left)))
 
 pub gate-spec : {M : Type 1} → statement M
 gate-spec = tie.close (tie.spec is-drawing-requires returns returns-2 returns-3)

@@ -1,4 +1,4 @@
-use Prim.Native.Nat.{_+_}
+use Prim.Native.Nat.{ℕ, _+_}
 use lib.IntN.{_-ℤ_}
 use mir.Syntax.{w64}
 use borrow.Author.Needs.{needs}
@@ -9,44 +9,50 @@ use Rattle.engine.proofs.Fitting.{Widened, widened, told}
 use Rattle.engine.proofs.halve_one.Statement.{statement}
 use Rattle.engine.proofs.halve_one.Tie as tie
 
-abbrev r : tie.After-widen → Registers
-r c = c .before .args .r
+abbrev start : tie.After-struct-told4 → tie.Start
+start c = c .before .before .before .before .before
 
-abbrev old : (c : tie.After-widen) → Widened (c .widen .result) (r c)
-old c = widened (c .widen .result) (r c) (told (c .before .good .0 .1 .1)) (c .widen .ensures)
+abbrev r : tie.After-struct-told4 → Registers
+r c = start c .args .r
 
-abbrev new-a : (c : tie.After-widen) → Num 2147483648 (r c .a >> 1)
+abbrev n : tie.After-struct-told4 → ℕ
+n c = start c .args .n
+
+abbrev old : (c : tie.After-struct-told4) → Widened (c .before .before .before .before .widen .result) (r c)
+old c = widened _ (r c) (told (start c .good .0 .1 .1)) (c .before .before .before .before .widen .ensures)
+
+abbrev new-a : (c : tie.After-struct-told4) → Num 2147483648 (r c .a >> 1)
 new-a c = local w64 tt (shift 1 (old c .a))
 
-abbrev new-b : (c : tie.After-widen) → Num 4294967296 (r c .b -ℤ (r c .a >> 1))
+abbrev new-b : (c : tie.After-struct-told4) → Num 4294967296 (r c .b -ℤ (r c .a >> 1))
 new-b c = minus (old c .b) (new-a c)
 
-abbrev new-c : (c : tie.After-widen) → Num 6442450944 (r c .c -ℤ ((r c .b -ℤ (r c .a >> 1)) >> (c .before .args .n + 2)))
-new-c c = minus (old c .c) (local w64 tt (shift (c .before .args .n + 2) (local w64 tt (new-b c))))
+abbrev new-c : (c : tie.After-struct-told4) → Num 6442450944 (r c .c -ℤ ((r c .b -ℤ (r c .a >> 1)) >> (n c + 2)))
+new-c c = minus (old c .c) (local w64 tt (shift (n c + 2) (local w64 tt (new-b c))))
 
 widen-requires : tie.Need-widen-requires
 widen-requires c κs = search needs
 
-sub-b : tie.Need-sub-b
-sub-b c = fits tt (new-b (c .before .before .before .before))
+sub-new-b : tie.Need-sub-new-b
+sub-new-b c = fits tt (new-b c)
 
-add-c : tie.Need-add-c
-add-c c = search needs
+add-new-c : tie.Need-add-new-c
+add-new-c c = search needs
 
-cast-c : tie.Need-cast-c
-cast-c c = search needs
+cast-new-c : tie.Need-cast-new-c
+cast-new-c c = search needs
 
-shr-c : tie.Need-shr-c
-shr-c c = search needs
+shr-new-c : tie.Need-shr-new-c
+shr-new-c c = search needs
 
-sub-c : tie.Need-sub-c
-sub-c c = fits tt (new-c (c .before .before .before .before .before .before))
+sub-new-c : tie.Need-sub-new-c
+sub-new-c c = fits tt (new-c c)
 
 returns : tie.Need-returns
 unfolding turn
 returns c =
-    let w = c .before .before .before .before .before .before .before in
-    λ i. record { a = new-a w .is i; b = local w64 tt (new-b w) .is i; c = local w64 tt (new-c w) .is i; d = old w .d .is i }
+    λ i. record { a = new-a c .is i; b = local w64 tt (new-b c) .is i; c = local w64 tt (new-c c) .is i; d = old c .d .is i }
 
 pub halve-one-spec : {M : Type 1} → statement M
-halve-one-spec = tie.close (tie.spec widen-requires sub-b add-c cast-c shr-c sub-c returns)
+halve-one-spec =
+    tie.close (tie.spec widen-requires sub-new-b add-new-c cast-new-c shr-new-c sub-new-c returns)

@@ -1,3 +1,4 @@
+use Prim.Native.Nat.{ℕ}
 use lib.IntN.{_+ℤ_}
 use mir.Syntax.{w64}
 use borrow.Author.Needs.{needs}
@@ -8,50 +9,56 @@ use Rattle.engine.proofs.Fitting.{Widened, widened, told}
 use Rattle.engine.proofs.step_one.Statement.{statement}
 use Rattle.engine.proofs.step_one.Tie as tie
 
-abbrev r : tie.After-widen → Registers
-r c = c .before .args .r
+abbrev start : tie.After-struct-told4 → tie.Start
+start c = c .before .before .before .before .before
 
-abbrev old : (c : tie.After-widen) → Widened (c .widen .result) (r c)
-old c = widened (c .widen .result) (r c) (told (c .before .good .0 .1 .1)) (c .widen .ensures)
+abbrev r : tie.After-struct-told4 → Registers
+r c = start c .args .r
 
-abbrev new-b : (c : tie.After-widen) → Num 4294967296 (r c .b +ℤ r c .a)
+abbrev n : tie.After-struct-told4 → ℕ
+n c = start c .args .n
+
+abbrev old : (c : tie.After-struct-told4) → Widened (c .before .before .before .before .widen .result) (r c)
+old c = widened _ (r c) (told (start c .good .0 .1 .1)) (c .before .before .before .before .widen .ensures)
+
+abbrev new-b : (c : tie.After-struct-told4) → Num 4294967296 (r c .b +ℤ r c .a)
 new-b c = plus (old c .b) (old c .a)
 
-abbrev new-c : (c : tie.After-widen) → Num 4294967296 (r c .c +ℤ (r c .b >> c .before .args .n))
-new-c c = plus (old c .c) (local w64 tt (shift (c .before .args .n) (old c .b)))
+abbrev new-c : (c : tie.After-struct-told4) → Num 4294967296 (r c .c +ℤ (r c .b >> n c))
+new-c c = plus (old c .c) (local w64 tt (shift (n c) (old c .b)))
 
-abbrev new-d : (c : tie.After-widen) → Num 4294967296 (r c .d +ℤ (r c .c >> c .before .args .n))
-new-d c = plus (old c .d) (local w64 tt (shift (c .before .args .n) (old c .c)))
+abbrev new-d : (c : tie.After-struct-told4) → Num 4294967296 (r c .d +ℤ (r c .c >> n c))
+new-d c = plus (old c .d) (local w64 tt (shift (n c) (old c .c)))
 
 widen-requires : tie.Need-widen-requires
 widen-requires c κs = search needs
 
-add-b : tie.Need-add-b
-add-b c = fits tt (new-b (c .before .before))
+add-new-b : tie.Need-add-new-b
+add-new-b c = fits tt (new-b c)
 
-cast-c : tie.Need-cast-c
-cast-c c = search needs
+cast-new-c : tie.Need-cast-new-c
+cast-new-c c = search needs
 
-shr-c : tie.Need-shr-c
-shr-c c = search needs
+shr-new-c : tie.Need-shr-new-c
+shr-new-c c = search needs
 
-add-c : tie.Need-add-c
-add-c c = fits tt (new-c (c .before .before .before .before .before .before))
+add-new-c : tie.Need-add-new-c
+add-new-c c = fits tt (new-c c)
 
-cast-d : tie.Need-cast-d
-cast-d c = search needs
+cast-new-d : tie.Need-cast-new-d
+cast-new-d c = search needs
 
-shr-d : tie.Need-shr-d
-shr-d c = search needs
+shr-new-d : tie.Need-shr-new-d
+shr-new-d c = search needs
 
-add-d : tie.Need-add-d
-add-d c = fits tt (new-d (c .before .before .before .before .before .before .before .before .before .before))
+add-new-d : tie.Need-add-new-d
+add-new-d c = fits tt (new-d c)
 
 returns : tie.Need-returns
 unfolding turn
 returns c =
-    let w = c .before .before .before .before .before .before .before .before .before .before .before in
-    λ i. record { a = old w .a .is i; b = local w64 tt (new-b w) .is i; c = local w64 tt (new-c w) .is i; d = local w64 tt (new-d w) .is i }
+    λ i. record { a = old c .a .is i; b = local w64 tt (new-b c) .is i; c = local w64 tt (new-c c) .is i; d = local w64 tt (new-d c) .is i }
 
 pub step-one-spec : {M : Type 1} → statement M
-step-one-spec = tie.close (tie.spec widen-requires add-b cast-c shr-c add-c cast-d shr-d add-d returns)
+step-one-spec =
+    tie.close (tie.spec widen-requires add-new-b cast-new-c shr-new-c add-new-c cast-new-d shr-new-d add-new-d returns)

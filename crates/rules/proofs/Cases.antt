@@ -1,0 +1,86 @@
+-- The values at which document 01 draws its limits, inside and outside, as one statement over a table of them.
+use mathlib.Core.Path.{_≡_, refl}
+use mathlib.Core.Bool.{Bool, true, false, not}
+use mathlib.Core.List.{List, [], _∷_}
+use Prim.Native.Nat.{ℕ}
+use lib.Dec.{T}
+use lib.IntN.{ℤ, pos, negsuc}
+use Rattle.numbers.proofs.Tables.{All, every, tested}
+use Rattle.rules.specs.Rules.{finest, isCoordinate, areNeighbours, isLevel, areLimits, isSize}
+
+pub data Rule : Type 0 where
+  coordinate : ℤ → Rule
+  neighbours : ℤ → ℤ → Rule
+  level : ℕ → Rule
+  limits : ℕ → ℕ → Rule
+  size : ℕ → ℕ → Rule
+
+abbrev pub keeps : Rule → Bool
+keeps (coordinate p) = isCoordinate p
+keeps (neighbours p p') = areNeighbours p p'
+keeps (level n) = isLevel finest n
+keeps (limits upper lower) = areLimits upper lower
+keeps (size S numbers) = isSize S numbers
+
+pub record Row : Type 0 where
+  pub rule : Rule
+  pub kept : Bool
+
+abbrev pub Holds : Row → Type 0
+Holds w = keeps (w .rule) ≡ w .kept
+
+abbrev yes : Rule → Row
+yes r = record { rule = r; kept = true }
+
+abbrev no : Rule → Row
+no r = record { rule = r; kept = false }
+
+unfoldable pub table : List Row
+table =
+    -- each coordinate from −16,384 to 16,383
+    yes (coordinate (negsuc 16383))
+    ∷ no (coordinate (negsuc 16384))
+    ∷ yes (coordinate (pos 16383))
+    ∷ no (coordinate (pos 16384))
+    -- neighbours differ by at most 682
+    ∷ yes (neighbours (pos 0) (pos 682))
+    ∷ no (neighbours (pos 0) (pos 683))
+    ∷ yes (neighbours (pos 682) (pos 0))
+    ∷ no (neighbours (pos 683) (pos 0))
+    -- levels 0 to 11
+    ∷ yes (level 0)
+    ∷ yes (level 11)
+    ∷ no (level 12)
+    -- 1 ≤ upper ≤ 65,536 and 0 ≤ lower ≤ upper
+    ∷ yes (limits 65536 32768)
+    ∷ yes (limits 65536 65536)
+    ∷ no (limits 65537 65536)
+    ∷ yes (limits 1 0)
+    ∷ no (limits 0 0)
+    ∷ no (limits 1 2)
+    -- 1 to 64 segments, 2(3S+1) numbers
+    ∷ yes (size 1 8)
+    ∷ no (size 1 7)
+    ∷ no (size 0 2)
+    ∷ yes (size 64 386)
+    ∷ no (size 65 392)
+    ∷ []
+
+-- ---- one test for all
+
+abbrev agree : Bool → Bool → Bool
+agree true b = b
+agree false b = not b
+
+agreed : (a b : Bool) → T (agree a b) → a ≡ b
+agreed true true t = refl
+agreed true false t = absurd t
+agreed false true t = absurd t
+agreed false false t = refl
+
+abbrev right : Row → Bool
+right w = agree (keeps (w .rule)) (w .kept)
+
+pub cases : All Holds table
+unfolding table isCoordinate areNeighbours isLevel areLimits isSize
+cases = tested Holds right (λ w t. agreed (keeps (w .rule)) (w .kept) t) table tt
