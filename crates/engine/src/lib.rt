@@ -6,11 +6,16 @@ ghost use lib.IntN.{natAbs};
 ghost use Rattle.rules.specs.Rules.{finest, standardUpper, standardLower};
 ghost use Rattle.engine.specs.Curve.{curve};
 ghost use Rattle.engine.specs.Registers.{halve, double, step, startRegisters, turn};
-ghost use Rattle.engine.specs.Drawing.{isDrawing, gated, callRefusal, areRegisters, landed, called};
+ghost use Rattle.engine.specs.Drawing.{isDrawing, gated, callRefusal, areRegisters, refused, landed, called};
 ghost use Rattle.engine.specs.Start.{areCoordinates, areNear, startRefusal, nothingDrawn, started};
 ghost use Rattle.engine.specs.Choice.{increment, doubledIncrement, wantsHalve, wantsDouble, choiceRefusal, said, choice};
 ghost use Rattle.engine.specs.Shown.{pixel, point};
 ghost use Rattle.engine.specs.Wide.{narrowed};
+
+// The position at the end of a drawing, 2^FINEST, and twice that: shifted by the level they are s and 2s.
+const END: u32 = 2048;
+
+const TWO_ENDS: u32 = 4096;
 
 // The registers of one coordinate, in 65,536ths of a unit.
 pub struct Registers {
@@ -71,10 +76,7 @@ impl Drawing {
     {
         let refusal = start_refusal(x, y, level);
         if refusal != 0 {
-            return Moved {
-                refusal: refusal,
-                drawing: nothing(),
-            };
+            return refuse(refusal, nothing());
         }
         Moved {
             refusal: 0,
@@ -95,10 +97,7 @@ impl Drawing {
         let q = self.q;
         let refusal = halve_refusal(level, q);
         if refusal != 0 {
-            return Moved {
-                refusal: refusal,
-                drawing: self,
-            };
+            return refuse(refusal, self);
         }
         let x = halve_one(self.x, level);
         let y = halve_one(self.y, level);
@@ -113,10 +112,7 @@ impl Drawing {
         let q = self.q;
         let refusal = double_refusal(level, q);
         if refusal != 0 {
-            return Moved {
-                refusal: refusal,
-                drawing: self,
-            };
+            return refuse(refusal, self);
         }
         let x = double_one(self.x, level);
         let y = double_one(self.y, level);
@@ -131,14 +127,11 @@ impl Drawing {
         let q = self.q;
         let refusal = gate(level, q);
         if refusal != 0 {
-            return Moved {
-                refusal: refusal,
-                drawing: self,
-            };
+            return refuse(refusal, self);
         }
         let x = step_one(self.x, level);
         let y = step_one(self.y, level);
-        land(self, level, q + (2048 >> level), x, y)
+        land(self, level, q + (END >> level), x, y)
     }
 
     // The operation that the three rules choose under these limits. Refuses 4, 10, 5.
@@ -258,10 +251,10 @@ fn nothing() -> Drawing
 fn is_drawing(level: u32, q: u32) -> bool
     ensures { λ r. ⌜ r ≡ isDrawing finest level q ⌝ }
 {
-    if level > 11 {
+    if level > rules::FINEST {
         return false;
     }
-    (q <= 2048) & (q % (2048 >> level) == 0)
+    (q <= END) & (q % (END >> level) == 0)
 }
 
 // 10 and 5, which come before each operation's own refusals.
@@ -269,7 +262,7 @@ fn gate(level: u32, q: u32) -> u32
     ensures { λ r. ⌜ r ≡ gated finest level q 0 ⌝ }
 {
     let outside = !is_drawing(level, q);
-    let ended = q >= 2048;
+    let ended = q >= END;
     if outside {
         return 10;
     }
@@ -286,7 +279,7 @@ fn halve_refusal(level: u32, q: u32) -> u32
     if refusal != 0 {
         return refusal;
     }
-    if level >= 11 {
+    if level >= rules::FINEST {
         return 6;
     }
     0
@@ -302,7 +295,7 @@ fn double_refusal(level: u32, q: u32) -> u32
     if level == 0 {
         return 7;
     }
-    if q % (4096 >> level) != 0 {
+    if q % (TWO_ENDS >> level) != 0 {
         return 8;
     }
     0
@@ -394,22 +387,29 @@ fn step_one(r: Registers, n: u32) -> Wide
 fn land(old: Drawing, level: u32, q: u32, x: Wide, y: Wide) -> Moved
     ensures { λ r. ⌜ r ≡ landed old (record { level = level; q = q; x = narrowed x; y = narrowed y }) ⌝ }
 {
-    if fit(x) {
-        if fit(y) {
-            return Moved {
-                refusal: 0,
-                drawing: Drawing {
-                    level: level,
-                    q: q,
-                    x: narrow(x),
-                    y: narrow(y),
-                },
-            };
-        }
+    let all_fit = fit(x) & fit(y);
+    if all_fit {
+        let new = Drawing {
+            level: level,
+            q: q,
+            x: narrow(x),
+            y: narrow(y),
+        };
+        return Moved {
+            refusal: 0,
+            drawing: new,
+        };
     }
+    refuse(10, old)
+}
+
+// A refusal hands back the drawing that it is given.
+fn refuse(refusal: u32, d: Drawing) -> Moved
+    ensures { λ r. ⌜ r ≡ refused refusal d ⌝ }
+{
     Moved {
-        refusal: 10,
-        drawing: old,
+        refusal: refusal,
+        drawing: d,
     }
 }
 
@@ -443,7 +443,7 @@ fn wants_halve(d: Drawing, upper: u32) -> bool
     let n = d.level;
     let x = increment_of(d.x, n);
     let y = increment_of(d.y, n);
-    (((upper as u64) < x) | ((upper as u64) < y)) & (n < 11)
+    (((upper as u64) < x) | ((upper as u64) < y)) & (n < rules::FINEST)
 }
 
 fn wants_double(d: Drawing, upper: u32, lower: u32) -> bool
@@ -460,7 +460,7 @@ fn wants_double(d: Drawing, upper: u32, lower: u32) -> bool
     let doubled_x = doubled_increment_of(d.x, n);
     let doubled_y = doubled_increment_of(d.y, n);
     ((x < lower as u64) & (y < lower as u64))
-        & (q % (4096 >> n) == 0)
+        & (q % (TWO_ENDS >> n) == 0)
         & ((doubled_x <= upper as u64) & (doubled_y <= upper as u64))
 }
 

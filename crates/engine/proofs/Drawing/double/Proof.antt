@@ -12,8 +12,13 @@ use Rattle.engine.proofs.Drawing.double.Tie as tie
 double-refusal-requires : tie.Need-double-refusal-requires
 double-refusal-requires c κs = search needs
 
+refuse-requires : tie.Need-refuse-requires
+refuse-requires c κs = search needs
+
 returns : tie.Need-returns
-returns c = call-refused 11 double (c .before .before .args .self) (c .before .double-refusal .ensures) (c .if1 .taken)
+returns c =
+    c .refuse .ensures
+    ∙ call-refused 11 double (c .before .before .before .args .self) (c .before .before .double-refusal .ensures) (c .before .if1 .taken)
 
 passes : (c : tie.Else1) → callRefusal 11 double (c .before .before .args .self .level) (c .before .before .args .self .q) ≡ 0
 passes c = sym (c .before .double-refusal .ensures) ∙ c .if1 .left
@@ -47,4 +52,4 @@ returns-2 c =
 
 pub double-spec : {M : Type 1} → statement M
 double-spec =
-    tie.close (tie.spec double-refusal-requires returns double-one-requires double-one-requires-2 sub-land land-requires returns-2)
+    tie.close (tie.spec double-refusal-requires refuse-requires returns double-one-requires double-one-requires-2 sub-land land-requires returns-2)

@@ -11,8 +11,13 @@ use Rattle.engine.proofs.Drawing.halve.Tie as tie
 halve-refusal-requires : tie.Need-halve-refusal-requires
 halve-refusal-requires c κs = search needs
 
+refuse-requires : tie.Need-refuse-requires
+refuse-requires c κs = search needs
+
 returns : tie.Need-returns
-returns c = call-refused 11 halve (c .before .before .args .self) (c .before .halve-refusal .ensures) (c .if1 .taken)
+returns c =
+    c .refuse .ensures
+    ∙ call-refused 11 halve (c .before .before .before .args .self) (c .before .before .halve-refusal .ensures) (c .before .if1 .taken)
 
 passes : (c : tie.Else1) → callRefusal 11 halve (c .before .before .args .self .level) (c .before .before .args .self .q) ≡ 0
 passes c = sym (c .before .halve-refusal .ensures) ∙ c .if1 .left
@@ -44,4 +49,4 @@ returns-2 c =
 
 pub halve-spec : {M : Type 1} → statement M
 halve-spec =
-    tie.close (tie.spec halve-refusal-requires returns halve-one-requires halve-one-requires-2 add-land land-requires returns-2)
+    tie.close (tie.spec halve-refusal-requires refuse-requires returns halve-one-requires halve-one-requires-2 add-land land-requires returns-2)

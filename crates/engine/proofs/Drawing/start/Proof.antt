@@ -11,11 +11,15 @@ start-refusal-requires c κs = search needs
 nothing-requires : tie.Need-nothing-requires
 nothing-requires c κs = search needs
 
+refuse-requires : tie.Need-refuse-requires
+refuse-requires c κs = search needs
+
 returns : tie.Need-returns
 returns c =
-    let s = c .before .before .before in
-    (λ i. record { refusal = c .before .before .start-refusal .result; drawing = c .nothing .ensures i })
-    ∙ start-refused 11 (s .args .x) (s .args .y) (s .args .level) (c .before .before .start-refusal .ensures) (c .before .if1 .taken)
+    let s = c .before .before .before .before in
+    c .refuse .ensures
+    ∙ (λ i. record { refusal = c .before .before .before .start-refusal .result; drawing = c .before .nothing .ensures i })
+    ∙ start-refused 11 (s .args .x) (s .args .y) (s .args .level) (c .before .before .before .start-refusal .ensures) (c .before .before .if1 .taken)
 
 passes : (c : tie.Else1) → startRefusal 11 (c .before .before .args .x) (c .before .before .args .y) (c .before .before .args .level) ≡ 0
 passes c = sym (c .before .start-refusal .ensures) ∙ c .if1 .left
@@ -41,4 +45,4 @@ returns-2 c =
 pub start-spec : {M : Type 1} → statement M
 start-spec =
     tie.close
-    (tie.spec start-refusal-requires nothing-requires returns start-one-requires start-one-requires-2 returns-2)
+    (tie.spec start-refusal-requires nothing-requires refuse-requires returns start-one-requires start-one-requires-2 returns-2)

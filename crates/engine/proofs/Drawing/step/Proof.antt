@@ -12,9 +12,14 @@ use Rattle.engine.proofs.Drawing.step.Tie as tie
 gate-requires : tie.Need-gate-requires
 gate-requires c κs = search needs
 
+refuse-requires : tie.Need-refuse-requires
+refuse-requires c κs = search needs
+
 returns : tie.Need-returns
 unfolding callRefusal
-returns c = call-refused 11 step (c .before .before .args .self) (c .before .gate .ensures) (c .if1 .taken)
+returns c =
+    c .refuse .ensures
+    ∙ call-refused 11 step (c .before .before .before .args .self) (c .before .before .gate .ensures) (c .before .if1 .taken)
 
 passes : (c : tie.Else1) → callRefusal 11 step (c .before .before .args .self .level) (c .before .before .args .self .q) ≡ 0
 unfolding callRefusal
@@ -54,4 +59,4 @@ returns-2 c =
 pub step-spec : {M : Type 1} → statement M
 step-spec =
     tie.close
-    (tie.spec gate-requires returns step-one-requires step-one-requires-2 shr-land add-land land-requires returns-2)
+    (tie.spec gate-requires refuse-requires returns step-one-requires step-one-requires-2 shr-land add-land land-requires returns-2)
