@@ -2,10 +2,10 @@
 use mathlib.Core.Path.{_≡_, refl, sym, ap, ap₂, _∙_, subst}
 use mathlib.Core.Bool.{Bool, true}
 use Prim.Native.Nat.{ℕ, zero, suc, _+_, _-_, _*_, _%_, _^_, _≤_, _<_}
-use native.Mathlib.Nat.{mul-mod-left, pow-succ'}
+use native.Mathlib.Nat.{mul-mod-left}
 use native.Mathlib.Numerals.{add-one}
 use native.Mathlib.Omega.{arith}
-use lib.Dec.{ltb, eqb}
+use lib.Dec.{ltb}
 use lib.IntN.{pos, _*ℤ_}
 use borrow.Author.Tests.{lt-ltb, eq-eqb, ltb-true}
 use Rattle.rules.specs.Rules.{unless}
@@ -15,9 +15,10 @@ use Rattle.engine.specs.declared.Drawing.{Drawing}
 use Rattle.engine.specs.declared.Moved.{Moved}
 use Rattle.engine.specs.Curve.{Curve}
 use Rattle.engine.specs.Registers.{halve, double, turn}
-use Rattle.engine.specs.Drawing.{stride, turned, called}
+use Rattle.engine.specs.Drawing.{stride, isAligned, turned, called}
 use Rattle.engine.proofs.Exact.{alpha}
 use Rattle.engine.proofs.Refined.{alpha-twice, two-steps}
+use Rattle.engine.proofs.Stays.{two-finer}
 use Rattle.engine.proofs.Back.{halve-after-double, double-after-halve}
 use Rattle.distance.specs.Calls.{ruled, settled}
 use Rattle.distance.proofs.Near.{At}
@@ -41,16 +42,13 @@ halve-doubled (suc n) r h = ap (λ (m : ℕ). turn halve m (turn double (suc n) 
 
 -- ---- level and q of the second call
 
-two-finer-strides : (F n j : ℕ) → n + j ≡ F → n < F → 2 * stride F (n + 1) ≡ 2 ^ j
-two-finer-strides F n zero e h = let no : ⊥ = omega arith in absurd no
-two-finer-strides F n (suc j) e h = ap (λ (t : ℕ). 2 * t) (stride-below F (n + 1) j (omega arith)) ∙ sym (pow-succ' 2 j)
-
 double-allowed : (F n j q m : ℕ) → n + j ≡ F → n < F → q < 2 ^ F → q ≡ m * 2 ^ j → ruled F double (n + 1) q ≡ 0
-unfolding ruled
+unfolding ruled isAligned
 double-allowed F n j q m e h before w =
     let end = lt-ltb q (2 ^ F) before in
     let above = lt-ltb 0 (n + 1) (omega arith) in
-    let even = eq-eqb (q % (2 * stride F (n + 1))) 0 (ap₂ (λ (u v : ℕ). u % v) w (two-finer-strides F n j e h) ∙ mul-mod-left m (2 ^ j)) in
+    let strides : 2 * stride F (n + 1) ≡ 2 ^ j = sym (two-finer F n h) ∙ stride-below F n j e in
+    let even = eq-eqb (q % (2 * stride F (n + 1))) 0 (ap₂ (λ (u v : ℕ). u % v) w strides ∙ mul-mod-left m (2 ^ j)) in
     λ i. unless (end i) 5 (unless (above i) 7 (unless (even i) 8 0))
 
 halve-allowed : (F n q : ℕ) → 0 < n → n ≤ F → q < 2 ^ F → ruled F halve (n - 1) q ≡ 0
@@ -86,7 +84,7 @@ module _ (F : ℕ) (x y : Curve) (fx : Bounded F x) (fy : Bounded F y) (d : Draw
   halve-undoes-double e =
       let n = d .level in
       let before = allowed F double n (d .q) e .0 in
-      let h = ltb-true 0 n (rule-kept (ltb 0 n) 6 (unless (eqb (d .q % (2 * stride F n)) 0) 8 0) (allowed F double n (d .q) e .1) .0) in
+      let h = ltb-true 0 n (rule-kept (ltb 0 n) 6 (unless (isAligned F n (d .q)) 8 0) (allowed F double n (d .q) e .1) .0) in
       let first : called F double d ≡ record { refusal = 0; drawing = turned F double d } =
       call-settled F x y fx fy d double k ∙ ap (λ (m : ℕ). settled m d (turned F double d)) e in
       let again : called F halve (turned F double d) ≡ record { refusal = 0; drawing = turned F halve (turned F double d) } =

@@ -1,15 +1,14 @@
 -- The operation that choosing names is never refused in a drawing that keeps the invariant, under any lawful limits.
 use mathlib.Core.Path.{_≡_, refl, sym, ap, _∙_}
 use mathlib.Core.Bool.{Bool, true}
-use Prim.Native.Nat.{ℕ, _*_, _%_, _^_, _<_}
-use lib.Dec.{ltb, eqb}
-use borrow.Author.Tests.{lt-ltb, eq-eqb}
+use Prim.Native.Nat.{ℕ, _^_, _<_}
+use borrow.Author.Tests.{lt-ltb}
 use Rattle.rules.specs.Rules.{unless, areLimits}
 use Rattle.engine.specs.declared.Drawing.{Drawing}
 use Rattle.engine.specs.declared.Moved.{Moved}
 use Rattle.engine.specs.Curve.{Curve}
 use Rattle.engine.specs.Registers.{Operation, halve, double, step}
-use Rattle.engine.specs.Drawing.{stride, isDrawing, gated, turned, called}
+use Rattle.engine.specs.Drawing.{isDrawing, gated, turned, called}
 use Rattle.engine.specs.Choice.{chosen, choiceRefusal, says, replied, choice}
 use Rattle.engine.proofs.Ends.{by-choice, halve-chosen, double-chosen}
 use Rattle.distance.specs.Calls.{ruled, settled}
@@ -25,8 +24,7 @@ chosen-ruled F upper lower d h =
     (λ e f.
     let c = double-chosen F upper lower d f in
     let above = lt-ltb 0 (d .level) (c .above) in
-    let even = eq-eqb (d .q % (2 * stride F (d .level))) 0 (c .aligned) in
-    λ i. unless (end i) 5 (unless (above i) 7 (unless (even i) 8 0)))
+    λ i. unless (end i) 5 (unless (above i) 7 (unless (c .aligned i) 8 0)))
     (λ e f i. unless (end i) 5 0)
 
 module _ (F : ℕ) (x y : Curve) (fx : Bounded F x) (fy : Bounded F y) (d : Drawing) (k : Kept F x y d) (upper lower : ℕ) where

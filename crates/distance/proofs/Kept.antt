@@ -3,7 +3,7 @@
 use mathlib.Core.Path.{_≡_, refl, sym, ap, ap₂, _∙_, subst, subst₂}
 use mathlib.Core.Bool.{Bool, true, false, cond, _&&_}
 use Prim.Native.Nat.{ℕ, zero, suc, _+_, _*_, _-_, _/_, _%_, _^_, _≤_, _<_}
-use native.Mathlib.Nat.{mul-mod-left, div-add-mod', pow-succ', le-trans, add-zero}
+use native.Mathlib.Nat.{mul-mod-left, pow-succ', le-trans}
 use native.Mathlib.Numerals.{add-one}
 use native.Mathlib.Omega.{arith}
 use lib.Dec.{leb, ltb, eqb, lit≤}
@@ -19,9 +19,10 @@ use Rattle.engine.specs.declared.Control.{Control}
 use Rattle.engine.specs.declared.Moved.{Moved}
 use Rattle.engine.specs.Curve.{Curve, curve}
 use Rattle.engine.specs.Registers.{Operation, halve, double, step, turn}
-use Rattle.engine.specs.Drawing.{stride, isDrawing, ownRefusal, gated, callRefusal, turned, isRegister, areRegisters, refused, landed, answered, called}
+use Rattle.engine.specs.Drawing.{stride, isDrawing, isAligned, ownRefusal, gated, callRefusal, turned, isRegister, areRegisters, refused, landed, answered, called}
 use Rattle.engine.proofs.Begin.{extent, reaches}
 use Rattle.engine.proofs.Gates.{Lawful}
+use Rattle.engine.proofs.Stays.{multiple}
 use Rattle.engine.proofs.Turns.{halve-on, double-on, step-on}
 use Rattle.distance.specs.Calls.{ruled, settled}
 use Rattle.distance.proofs.Near.{At}
@@ -79,11 +80,8 @@ double-at F f (suc n) j q m r h e o =
     subst (λ (l : ℕ). At F f l (suc j) q (turn double (suc n) r)) (sym (less-one n))
     (double-on (2 ^ (16 - F)) (2 ^ F) f n j q m r (e ∙ ap (λ (t : ℕ). m * t) (sym (pow-succ' 2 j))) o)
 
-aligned : (q t : ℕ) → q % t ≡ 0 → q ≡ q / t * t
-aligned q t e = sym (div-add-mod' q t) ∙ ap (λ (m : ℕ). q / t * t + m) e ∙ add-zero (q / t * t)
-
 pub kept-turned : (F : ℕ) (x y : Curve) (d : Drawing) (op : Operation) → Kept F x y d → ruled F op (d .level) (d .q) ≡ 0 → Kept F x y (turned F op d)
-unfolding turned
+unfolding turned isAligned
 kept-turned F x y d halve k e =
     let h = ltb-true (d .level) F (rule-kept (ltb (d .level) F) 5 0 (allowed F halve (d .level) (d .q) e .1) .0) in
     record {
@@ -94,16 +92,16 @@ kept-turned F x y d halve k e =
     }
 kept-turned F x y d double k e =
     let two = 2 * stride F (d .level) in
-    let f = rule-kept (ltb 0 (d .level)) 6 _ (allowed F double (d .level) (d .q) e .1) in
+    let f = rule-kept (ltb 0 (d .level)) 6 (unless (isAligned F (d .level) (d .q)) 8 0) (allowed F double (d .level) (d .q) e .1) in
     let h = ltb-true 0 (d .level) (f .0) in
     let s = stride-below F (d .level) (k .below) (k .levels) in
-    let even = eqb-true (d .q % two) 0 (rule-kept (eqb (d .q % two) 0) 7 0 (f .1) .0) in
-    let multiple : d .q ≡ d .q / two * (2 * 2 ^ k .below) = aligned (d .q) two even ∙ ap (λ (t : ℕ). d .q / two * (2 * t)) s in
+    let even = eqb-true (d .q % two) 0 (rule-kept (isAligned F (d .level) (d .q)) 7 0 (f .1) .0) in
+    let twice : d .q ≡ d .q / two * (2 * 2 ^ k .below) = multiple (d .q) two even ∙ ap (λ (t : ℕ). d .q / two * (2 * t)) s in
     record {
       below = suc (k .below);
       levels = omega (arith, k .levels);
-      on-x = double-at F x (d .level) (k .below) (d .q) (d .q / two) (d .x) h multiple (k .on-x);
-      on-y = double-at F y (d .level) (k .below) (d .q) (d .q / two) (d .y) h multiple (k .on-y);
+      on-x = double-at F x (d .level) (k .below) (d .q) (d .q / two) (d .x) h twice (k .on-x);
+      on-y = double-at F y (d .level) (k .below) (d .q) (d .q / two) (d .y) h twice (k .on-y);
     }
 kept-turned F x y d step k e =
     let h = allowed F step (d .level) (d .q) e .0 in

@@ -15,7 +15,7 @@ use Rattle.engine.specs.declared.Control.{Control}
 use Rattle.engine.specs.declared.Moved.{Moved}
 use Rattle.engine.specs.Curve.{curve}
 use Rattle.engine.specs.Registers.{Operation, halve, double, step, turn, startRegisters}
-use Rattle.engine.specs.Drawing.{isDrawing, gated, callRefusal, turned, areRegisters, landed, called}
+use Rattle.engine.specs.Drawing.{isDrawing, isAligned, gated, callRefusal, turned, areRegisters, landed, called}
 use Rattle.engine.specs.Start.{areCoordinates, areNear, startRefusal, zeros, started}
 
 -- the numbers that the document gives, where it gives them
@@ -155,5 +155,5 @@ right-holds w t =
     }
 
 pub starred : All Holds table
-unfolding table started startRefusal areCoordinates areNear isCoordinate areNeighbours isLevel curve startRegisters called callRefusal gated isDrawing turned turn landed areRegisters
+unfolding table started startRefusal areCoordinates areNear isCoordinate areNeighbours isLevel curve startRegisters called callRefusal gated isDrawing isAligned turned turn landed areRegisters
 starred = tested Holds right right-holds table tt

@@ -2,15 +2,15 @@
 use mathlib.Core.Path.{_≡_, refl, sym, ap, _∙_}
 use mathlib.Core.Bool.{Bool, true, false, cond, _&&_}
 use mathlib.Core.Option.{Option, none}
-use Prim.Native.Nat.{ℕ, zero, suc, _*_, _%_, _^_}
-use lib.Dec.{ltb, eqb}
+use Prim.Native.Nat.{ℕ, zero, suc, _^_}
+use lib.Dec.{ltb}
 use Rattle.rules.specs.Rules.{unless, Among, areLimits, isLevel, standardUpper, standardLower}
 use Rattle.rules.proofs.Laws.{line-among, among}
 use Rattle.engine.specs.declared.Drawing.{Drawing}
 use Rattle.engine.specs.declared.Moved.{Moved}
 use Rattle.engine.specs.declared.Control.{Control}
 use Rattle.engine.specs.Registers.{Operation, halve, double, step}
-use Rattle.engine.specs.Drawing.{stride, isDrawing, ownRefusal, gated, callRefusal, callTable, turned, areRegisters, refused, landed, answered, called}
+use Rattle.engine.specs.Drawing.{isDrawing, isAligned, ownRefusal, gated, callRefusal, callTable, turned, areRegisters, refused, landed, answered, called}
 use Rattle.engine.specs.Start.{areCoordinates, areNear, startRefusal, startTable, nothingDrawn, begun, firstDrawing, started}
 use Rattle.engine.specs.Choice.{Said, chosen, choiceRefusal, choiceTable, standardTable, replied, choice}
 
@@ -18,7 +18,7 @@ use Rattle.engine.specs.Choice.{Said, chosen, choiceRefusal, choiceTable
 
 own-among : (F : ℕ) (op : Operation) (n q : ℕ) → Among (ownRefusal F op n q) (callTable op)
 own-among F halve n q = line-among (ltb n F) (among tt) (among tt)
-own-among F double n q = line-among (ltb 0 n) (among tt) (line-among (eqb (q % (2 * stride F n)) 0) (among tt) (among tt))
+own-among F double n q = line-among (ltb 0 n) (among tt) (line-among (isAligned F n q) (among tt) (among tt))
 own-among F step n q = among tt
 
 pub record Common (op : Operation) : Type 0 where

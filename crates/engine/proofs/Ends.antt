@@ -5,13 +5,15 @@ use mathlib.Core.Bool.{Bool, true, false, cond, _&&_, _||_}
 use Prim.Native.Nat.{ℕ, _+_, _-_, _*_, _%_, _^_, _≤_, _<_}
 use native.Mathlib.Nat.{mul-le-mul-right}
 use native.Mathlib.Omega.{arith}
-use lib.Dec.{leb, ltb, eqb}
+use lib.Dec.{leb, ltb}
 use lib.Pow.{pow-pos}
-use borrow.Author.Tests.{ltb-true, leb-true, eqb-true, le-ltb}
+use borrow.Author.Tests.{ltb-true, leb-true, le-ltb}
 use Rattle.numbers.proofs.Tests.{and-true}
 use Rattle.engine.specs.declared.Drawing.{Drawing}
 use Rattle.engine.specs.Registers.{Operation, halve, double, step}
-use Rattle.engine.specs.Drawing.{stride, turned}
+use Rattle.engine.specs.Drawing.{stride, isAligned, turned}
+use Rattle.engine.proofs.Gates.{Open}
+use Rattle.engine.proofs.Stays.{step-within}
 use Rattle.engine.specs.Choice.{increment, doubledIncrement, wantsHalve, wantsDouble, chosen}
 
 -- 2F + 2 for each unit of q that is left, and for the level how far it may still be halved, or doubled
@@ -43,7 +45,7 @@ halve-chosen F upper d e =
 
 pub record Doubling (F upper : ℕ) (d : Drawing) : Type 0 where
   pub above : 0 < d .level
-  pub aligned : d .q % (2 * stride F (d .level)) ≡ 0
+  pub aligned : isAligned F (d .level) (d .q) ≡ true
   pub x : doubledIncrement (d .level) (d .x) ≤ upper
   pub y : doubledIncrement (d .level) (d .y) ≤ upper
 
@@ -53,7 +55,7 @@ double-chosen F upper lower d e =
     let n = d .level in
     let above = ltb 0 n in
     let small = ltb (increment n (d .x)) lower && ltb (increment n (d .y)) lower in
-    let aligned = eqb (d .q % (2 * stride F n)) 0 in
+    let aligned = isAligned F n (d .q) in
     let dx = leb (doubledIncrement n (d .x)) upper in
     let dy = leb (doubledIncrement n (d .y)) upper in
     let three = and-true (above && small && aligned) (dx && dy) e in
@@ -62,7 +64,7 @@ double-chosen F upper lower d e =
     let both = and-true dx dy (three .1) in
     record {
       above = ltb-true 0 n (one .0);
-      aligned = eqb-true (d .q % (2 * stride F n)) 0 (two .1);
+      aligned = two .1;
       x = leb-true (doubledIncrement n (d .x)) upper (both .0);
       y = leb-true (doubledIncrement n (d .y)) upper (both .1);
     }
@@ -105,11 +107,9 @@ unfolding turned
 double-falls F upper lower d e f =
     simp (e, double-holds F upper lower d f) (omega (arith, double-chosen F upper lower d f .above))
 
--- where the level is lawful and a step stays inside
-pub chosen-falls : (F upper lower : ℕ) (d : Drawing) → d .level ≤ F → d .q + stride F (d .level) ≤ 2 ^ F
-    → left F upper (turned F (chosen F upper lower d) d) < left F upper d
-chosen-falls F upper lower d h k =
+pub chosen-falls : (F upper lower : ℕ) (d : Drawing) → Open F (d .level) (d .q) → left F upper (turned F (chosen F upper lower d) d) < left F upper d
+chosen-falls F upper lower d o =
     by-choice F upper lower d (λ op. left F upper (turned F op d) < left F upper d)
     (halve-falls F upper d)
     (double-falls F upper lower d)
-    (λ e f. step-falls F upper d h k)
+    (λ e f. step-falls F upper d (o .inside .level) (step-within F (d .level) (d .q) o))

@@ -15,7 +15,7 @@ use Rattle.engine.specs.declared.Drawing.{Drawing}
 use Rattle.engine.specs.declared.Control.{Control}
 use Rattle.engine.specs.declared.Moved.{Moved}
 use Rattle.engine.specs.Registers.{Operation, double}
-use Rattle.engine.specs.Drawing.{stride, isDrawing, ownRefusal, gated, callRefusal, turned, refused, landed, answered, called}
+use Rattle.engine.specs.Drawing.{stride, isDrawing, isAligned, ownRefusal, gated, callRefusal, turned, refused, landed, answered, called}
 use Rattle.engine.specs.Choice.{Said, chosen, replied, choiceRefusal, choice}
 use Rattle.engine.specs.Start.{areCoordinates, areNear, startRefusal, nothingDrawn, begun, firstDrawing, started}
 
@@ -95,7 +95,7 @@ pub double-whole : (F n q : ℕ) → callRefusal F double n q ≡ 0 → n - 1 + 
 unfolding callRefusal
 double-whole F n q e =
     let own = opens F n q (ownRefusal F double n q) e .1 in
-    let above = ltb-true 0 n (rule-kept (ltb 0 n) 6 (unless (eqb (q % (2 * stride F n)) 0) 8 0) own .0) in
+    let above = ltb-true 0 n (rule-kept (ltb 0 n) 6 (unless (isAligned F n q) 8 0) own .0) in
     omega arith
 
 -- ---- the two ways of an answer

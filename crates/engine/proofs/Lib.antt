@@ -10,5 +10,6 @@ pub mod Demand1
 pub mod Answer
 pub mod Bernstein
 pub mod Pixel
+pub mod Stays
 pub mod Ends
 pub mod Cases

@@ -2,8 +2,8 @@
 use mathlib.Core.Bool.{Bool, cond, _&&_, _||_}
 use mathlib.Core.List.{List, [], _∷_}
 use mathlib.Core.Option.{Option, none, some}
-use Prim.Native.Nat.{ℕ, zero, suc, _-_, _*_, _%_, _^_}
-use lib.Dec.{leb, ltb, eqb}
+use Prim.Native.Nat.{ℕ, zero, suc, _-_}
+use lib.Dec.{leb, ltb}
 use lib.IntN.{natAbs}
 use Rattle.rules.specs.Rules.{unless, areLimits}
 use Rattle.engine.specs.declared.Registers.{Registers}
@@ -11,7 +11,7 @@ use Rattle.engine.specs.declared.Drawing.{Drawing}
 use Rattle.engine.specs.declared.Next.{Next}
 use Rattle.engine.specs.declared.Next.the-variants.{Halve, Double, Step, Refused}
 use Rattle.engine.specs.Registers.{Operation, halve, double, step, _>>_, turn}
-use Rattle.engine.specs.Drawing.{stride, gated}
+use Rattle.engine.specs.Drawing.{isAligned, gated}
 
 -- the magnitude of a coordinate's increment c >> n, and of what it would be after doubling
 unfoldable pub increment : ℕ → Registers → ℕ
@@ -30,7 +30,7 @@ unfoldable pub wantsDouble : ℕ → ℕ → ℕ → Drawing → Bool
 wantsDouble F upper lower d =
     ltb 0 (d .level)
     && (ltb (increment (d .level) (d .x)) lower && ltb (increment (d .level) (d .y)) lower)
-    && eqb (d .q % (2 * stride F (d .level))) 0
+    && isAligned F (d .level) (d .q)
     && (leb (doubledIncrement (d .level) (d .x)) upper && leb (doubledIncrement (d .level) (d .y)) upper)
 
 -- in this order; 3: otherwise step

@@ -19,10 +19,14 @@ stride F n = 2 ^ (F - n)
 unfoldable pub isDrawing : ℕ → ℕ → ℕ → Bool
 isDrawing F n q = leb n F && leb q (2 ^ F) && eqb (q % stride F n) 0
 
+-- q is a multiple of 2s
+unfoldable pub isAligned : ℕ → ℕ → ℕ → Bool
+isAligned F n q = eqb (q % (2 * stride F n)) 0
+
 -- what each operation refuses by itself: 6 is halve at level F, 7 double at level 0, 8 double where q is no multiple of 2s
 abbrev pub ownRefusal : ℕ → Operation → ℕ → ℕ → ℕ
 ownRefusal F halve n q = unless (ltb n F) 6 0
-ownRefusal F double n q = unless (ltb 0 n) 7 (unless (eqb (q % (2 * stride F n)) 0) 8 0)
+ownRefusal F double n q = unless (ltb 0 n) 7 (unless (isAligned F n q) 8 0)
 ownRefusal F step n q = 0
 
 -- 10 by level and q, then 5 at the end of the drawing, then what comes after

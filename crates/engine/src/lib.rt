@@ -6,7 +6,7 @@ ghost use lib.IntN.{natAbs};
 ghost use Rattle.rules.specs.Rules.{finest, standardUpper, standardLower};
 ghost use Rattle.engine.specs.Curve.{curve};
 ghost use Rattle.engine.specs.Registers.{halve, double, step, startRegisters, turn};
-ghost use Rattle.engine.specs.Drawing.{isDrawing, gated, callRefusal, areRegisters, refused, landed, called};
+ghost use Rattle.engine.specs.Drawing.{isDrawing, isAligned, gated, callRefusal, areRegisters, refused, landed, called};
 ghost use Rattle.engine.specs.Start.{areCoordinates, areNear, startRefusal, nothingDrawn, started};
 ghost use Rattle.engine.specs.Choice.{increment, doubledIncrement, wantsHalve, wantsDouble, choiceRefusal, said, choice};
 ghost use Rattle.engine.specs.Shown.{pixel, point};
@@ -257,6 +257,13 @@ fn is_drawing(level: u32, q: u32) -> bool
     (q <= END) & (q % (END >> level) == 0)
 }
 
+fn is_aligned(level: u32, q: u32) -> bool
+    requires { ⌜ level ≤ finest ⌝ }
+    ensures { λ r. ⌜ r ≡ isAligned finest level q ⌝ }
+{
+    q % (TWO_ENDS >> level) == 0
+}
+
 // 10 and 5, which come before each operation's own refusals.
 fn gate(level: u32, q: u32) -> u32
     ensures { λ r. ⌜ r ≡ gated finest level q 0 ⌝ }
@@ -295,7 +302,7 @@ fn double_refusal(level: u32, q: u32) -> u32
     if level == 0 {
         return 7;
     }
-    if q % (TWO_ENDS >> level) != 0 {
+    if !is_aligned(level, q) {
         return 8;
     }
     0
@@ -460,7 +467,7 @@ fn wants_double(d: Drawing, upper: u32, lower: u32) -> bool
     let doubled_x = doubled_increment_of(d.x, n);
     let doubled_y = doubled_increment_of(d.y, n);
     ((x < lower as u64) & (y < lower as u64))
-        & (q % (TWO_ENDS >> n) == 0)
+        & is_aligned(n, q)
         & ((doubled_x <= upper as u64) & (doubled_y <= upper as u64))
 }
 

@@ -1,13 +1,12 @@
 use mathlib.Core.Path.{_≡_, sym, _∙_}
 use mathlib.Core.Bool.{true}
-use Prim.Native.Nat.{_≤_, _-_}
+use Prim.Native.Nat.{_≤_}
 use native.Mathlib.Omega.{arith}
 use lib.Dec.{ltb}
-use lib.Pow.{pow-pos}
 use borrow.Author.Needs.{needs}
-use borrow.Author.Tests.{lt-ltb, eq-eqb, ne-eqb}
+use borrow.Author.Tests.{lt-ltb, not-true, not-false}
 use Rattle.engine.specs.Drawing.{callRefusal, gated}
-use Rattle.engine.proofs.Gates.{gate-shut, gate-open, opens, two-strides}
+use Rattle.engine.proofs.Gates.{gate-shut, gate-open, opens}
 use Rattle.engine.proofs.double_refusal.Statement.{statement}
 use Rattle.engine.proofs.double_refusal.Tie as tie
 
@@ -25,27 +24,22 @@ returns-2 : tie.Need-returns-2
 unfolding callRefusal
 returns-2 c = sym (gate-open _ _ _ _ (let-through (c .before)) ∙ simp (c .if2 .taken))
 
-low : (c : tie.Else2) → c .before .before .before .args .level ≤ 11
-low c = opens _ _ _ _ (let-through (c .before)) .0 .inside .level
-
 above : (c : tie.Else2) → ltb 0 (c .before .before .before .args .level) ≡ true
 above c = lt-ltb 0 (c .before .before .before .args .level) (omega (arith, c .if2 .left))
 
-shr-if3 : tie.Need-shr-if3
-shr-if3 c = omega (arith, low c)
-
-rem-if3 : tie.Need-rem-if3
-rem-if3 c = rw (two-strides _ (low c)) (omega (arith, pow-pos (11 - c .before .before .before .args .level)))
+is-aligned-requires : tie.Need-is-aligned-requires
+is-aligned-requires c κs = opens _ _ _ _ (let-through (c .before)) .0 .inside .level
 
 returns-3 : tie.Need-returns-3
 unfolding callRefusal
 returns-3 c =
-    sym (gate-open _ _ _ _ (let-through (c .before .before)) ∙ simp (above (c .before), ← two-strides _ (low (c .before)), ne-eqb _ _ (c .if3 .taken)))
+    sym (gate-open _ _ _ _ (let-through (c .before .before .before)) ∙ simp (above (c .before .before), sym (c .before .is-aligned .ensures) ∙ not-true _ (c .if3 .taken)))
 
 returns-4 : tie.Need-returns-4
 unfolding callRefusal
 returns-4 c =
-    sym (gate-open _ _ _ _ (let-through (c .before .before)) ∙ simp (above (c .before), ← two-strides _ (low (c .before)), eq-eqb _ _ (c .if3 .left)))
+    sym (gate-open _ _ _ _ (let-through (c .before .before .before)) ∙ simp (above (c .before .before), sym (c .before .is-aligned .ensures) ∙ not-false _ (c .if3 .left)))
 
 pub double-refusal-spec : {M : Type 1} → statement M
-double-refusal-spec = tie.close (tie.spec gate-requires returns returns-2 shr-if3 rem-if3 returns-3 returns-4)
+double-refusal-spec =
+    tie.close (tie.spec gate-requires returns returns-2 is-aligned-requires returns-3 returns-4)
