@@ -1,12 +1,11 @@
 -- Halve and double undo one another: wherever the first is accepted so is the second, and the drawing comes back whole.
-use mathlib.Core.Path.{_≡_, refl, sym, ap, ap₂, _∙_, subst}
-use mathlib.Core.Bool.{Bool, true}
+use mathlib.Core.Path.{_≡_, sym, ap, ap₂, _∙_}
 use Prim.Native.Nat.{ℕ, zero, suc, _+_, _-_, _*_, _%_, _^_, _≤_, _<_}
 use native.Mathlib.Nat.{mul-mod-left}
 use native.Mathlib.Numerals.{add-one}
 use native.Mathlib.Omega.{arith}
 use lib.Dec.{ltb}
-use lib.IntN.{pos, _*ℤ_}
+use lib.IntN.{pos}
 use borrow.Author.Tests.{lt-ltb, eq-eqb, ltb-true}
 use Rattle.rules.specs.Rules.{unless}
 use Rattle.rules.proofs.Laws.{rule-kept}

@@ -3,8 +3,7 @@ use mathlib.Core.Path.{_≡_, refl, sym, ap, _∙_, subst}
 use mathlib.Core.Bool.{Bool, cond}
 use mathlib.Core.List.{List, [], _∷_}
 use Prim.Native.Nat.{ℕ, zero, suc, _+_, _-_, _*_, _^_, _≤_}
-use native.Mathlib.Nat.{add-zero, zero-add, add-assoc, add-sub-of-le}
-use native.Mathlib.Omega.{arith}
+use native.Mathlib.Nat.{add-zero, add-assoc, add-sub-of-le}
 use lib.Dec.{eqb, eqb·suc-zero}
 use lib.Pow.{pow-add}
 use Rattle.engine.specs.declared.Drawing.{Drawing}
@@ -12,9 +11,8 @@ use Rattle.engine.specs.declared.Control.{Control}
 use Rattle.engine.specs.declared.Moved.{Moved}
 use Rattle.engine.specs.Curve.{Curve, curve}
 use Rattle.engine.specs.Registers.{Operation, halve, double, step}
-use Rattle.engine.specs.Drawing.{stride, turned, newPosition, called}
-use Rattle.engine.specs.Start.{startRefusal, firstDrawing, started}
-use Rattle.engine.proofs.Gates.{Accepted, accepted, start-begins}
+use Rattle.engine.specs.Drawing.{stride, turned, called}
+use Rattle.engine.specs.Start.{firstDrawing}
 use Rattle.engine.proofs.Turns.{start-on}
 use Rattle.distance.specs.Calls.{after, gain, travelled, ruled, settled}
 use Rattle.distance.proofs.Near.{scale}

@@ -1,14 +1,13 @@
 -- The operation that choosing names is never refused in a drawing that keeps the invariant, under any lawful limits.
-use mathlib.Core.Path.{_≡_, refl, sym, ap, _∙_}
-use mathlib.Core.Bool.{Bool, true}
+use mathlib.Core.Path.{_≡_, ap, _∙_}
+use mathlib.Core.Bool.{true}
 use Prim.Native.Nat.{ℕ, _^_, _<_}
 use borrow.Author.Tests.{lt-ltb}
 use Rattle.rules.specs.Rules.{unless, areLimits}
 use Rattle.engine.specs.declared.Drawing.{Drawing}
-use Rattle.engine.specs.declared.Moved.{Moved}
 use Rattle.engine.specs.Curve.{Curve}
-use Rattle.engine.specs.Registers.{Operation, halve, double, step}
-use Rattle.engine.specs.Drawing.{isDrawing, gated, turned, called}
+use Rattle.engine.specs.Registers.{Operation}
+use Rattle.engine.specs.Drawing.{gated, turned, called}
 use Rattle.engine.specs.Choice.{chosen, choiceRefusal, says, replied, choice}
 use Rattle.engine.proofs.Ends.{by-choice, halve-chosen, double-chosen}
 use Rattle.distance.specs.Calls.{ruled, settled}

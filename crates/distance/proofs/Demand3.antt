@@ -2,7 +2,7 @@
 use mathlib.Core.Path.{_≡_, refl, sym, ap, _∙_, subst}
 use mathlib.Core.Bool.{true}
 use mathlib.Core.List.{List}
-use Prim.Native.Nat.{ℕ, zero, suc, _+_, _*_, _-_, _^_, _≤_, _<_}
+use Prim.Native.Nat.{ℕ, zero, suc, _≤_, _<_}
 use native.Mathlib.Nat.{lt-of-lt-of-le, zero-add}
 use native.Mathlib.Omega.{arith}
 use lib.Dec.{lit≤}
@@ -17,7 +17,7 @@ use Rattle.engine.specs.Registers.{Operation, halve, double}
 use Rattle.engine.specs.Drawing.{areRegisters, turned, called}
 use Rattle.engine.specs.Start.{startRefusal, firstDrawing, started}
 use Rattle.engine.specs.Choice.{chosen}
-use Rattle.engine.proofs.Gates.{Lawful, Accepted, accepted, start-begins}
+use Rattle.engine.proofs.Gates.{accepted, start-begins}
 use Rattle.distance.specs.Calls.{after, travelled, ruled, settled}
 use Rattle.distance.specs.Demand3.{Stands, Goes, Demand3}
 use Rattle.distance.proofs.Near.{At, near}

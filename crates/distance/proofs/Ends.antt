@@ -1,22 +1,21 @@
 -- The two ends of the curve: at q = 0 d is exact, and at q = 2^F the point shown is the last control point.
-use mathlib.Core.Path.{_≡_, refl, sym, ap, _∙_, subst}
-use Prim.Native.Nat.{ℕ, zero, _+_, _*_, _-_, _^_, _≤_}
+use mathlib.Core.Path.{_≡_, refl, sym, ap, _∙_}
+use Prim.Native.Nat.{ℕ, _*_, _-_, _^_, _≤_}
 use native.Mathlib.Nat.{le-of-lt, le-refl, mul-pos}
 use native.Mathlib.Omega.{arith}
 use lib.Dec.{lit≤}
 use lib.Pow.{pow-pos, pow-mono}
-use lib.IntN.{ℤ, pos, natAbs, _-ℤ_, _*ℤ_}
-use lib.Signed.{_≤ℤ_}
+use lib.IntN.{ℤ, pos, _-ℤ_, _*ℤ_}
 use borrow.Author.Needs.{zero≤}
 use Rattle.numbers.proofs.Parts.{no-difference}
-use Rattle.numbers.proofs.Ring.{#, _:+_, _:-_, _:*_, ring}
-use Rattle.numbers.proofs.Order.{≤ℤ-trans, gap, certified}
+use Rattle.numbers.proofs.Ring.{#, _:-_, _:*_, ring}
+use Rattle.numbers.proofs.Order.{gap, certified}
 use Rattle.numbers.proofs.Size.{Size, size-of, size-by, size-factor, size-between, size-zero}
 use Rattle.engine.specs.declared.Registers.{Registers}
 use Rattle.engine.specs.declared.Control.{Control}
 use Rattle.engine.specs.Curve.{Curve, curve, exact}
 use Rattle.engine.specs.Shown.{pixel}
-use Rattle.engine.proofs.Exact.{place, miss, drift, placeE, missE, driftE}
+use Rattle.engine.proofs.Exact.{place, miss, placeE, missE, driftE}
 use Rattle.engine.proofs.Bernstein.{ends}
 use Rattle.engine.proofs.Pixel.{shows}
 use Rattle.distance.proofs.Near.{At, scale, near}

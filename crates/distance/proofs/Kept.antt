@@ -1,12 +1,12 @@
 -- A drawing that keeps the invariant in both coordinates: each operation that level and q allow keeps it, its new registers fit 32 bits,
 -- and so every call is answered as level and q say. x and y are any curves whose registers fit.
 use mathlib.Core.Path.{_≡_, refl, sym, ap, ap₂, _∙_, subst, subst₂}
-use mathlib.Core.Bool.{Bool, true, false, cond, _&&_}
+use mathlib.Core.Bool.{Bool, true, cond, _&&_}
 use Prim.Native.Nat.{ℕ, zero, suc, _+_, _*_, _-_, _/_, _%_, _^_, _≤_, _<_}
 use native.Mathlib.Nat.{mul-mod-left, pow-succ', le-trans}
 use native.Mathlib.Numerals.{add-one}
 use native.Mathlib.Omega.{arith}
-use lib.Dec.{leb, ltb, eqb, lit≤}
+use lib.Dec.{ltb, lit≤}
 use lib.Pow.{pow-mono}
 use lib.IntN.{ℤ, pos, negsuc}
 use borrow.Author.Tests.{le-leb, eq-eqb, ltb-true, eqb-true}
@@ -16,7 +16,6 @@ use Rattle.rules.proofs.Laws.{rule-kept}
 use Rattle.engine.specs.declared.Registers.{Registers}
 use Rattle.engine.specs.declared.Drawing.{Drawing}
 use Rattle.engine.specs.declared.Control.{Control}
-use Rattle.engine.specs.declared.Moved.{Moved}
 use Rattle.engine.specs.Curve.{Curve, curve}
 use Rattle.engine.specs.Registers.{Operation, halve, double, step, turn}
 use Rattle.engine.specs.Drawing.{stride, isDrawing, isAligned, ownRefusal, gated, callRefusal, turned, isRegister, areRegisters, refused, landed, answered, called}
@@ -26,7 +25,7 @@ use Rattle.engine.proofs.Stays.{multiple}
 use Rattle.engine.proofs.Turns.{halve-on, double-on, step-on}
 use Rattle.distance.specs.Calls.{ruled, settled}
 use Rattle.distance.proofs.Near.{At}
-use Rattle.distance.proofs.Sizes.{Sizes, sizes}
+use Rattle.distance.proofs.Sizes.{sizes}
 
 -- `below` finer levels are left
 pub record Kept (F : ℕ) (x y : Curve) (d : Drawing) : Type 0 where

@@ -1,10 +1,10 @@
 -- How far d is from the exact curve in one coordinate, for any curve and any finest level F up to 16: less than 2·2^F in 65,536ths.
-use mathlib.Core.Path.{_≡_, sym, ap, _∙_, subst}
+use mathlib.Core.Path.{_≡_, ap, _∙_}
 use Prim.Native.Nat.{ℕ, zero, suc, _+_, _*_, _-_, _^_, _≤_, _<_}
 use native.Mathlib.Nat.{mul-pos, mul-le-mul-left, mul-le-mul-right}
 use native.Mathlib.Omega.{arith}
 use lib.Pow.{pow-pos, pow-add}
-use lib.IntN.{ℤ, pos, natAbs, _+ℤ_, _-ℤ_, _*ℤ_}
+use lib.IntN.{ℤ, pos, natAbs, _-ℤ_, _*ℤ_}
 use lib.Signed.{_≤ℤ_}
 use Rattle.numbers.proofs.Ring.{#, _:+_, _:-_, _:*_, ring}
 use Rattle.numbers.proofs.Order.{≤ℤ-trans, nat, less, _⊕_, _⊗_, gap, certified}

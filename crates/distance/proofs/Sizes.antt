@@ -5,7 +5,7 @@ use Prim.Native.Nat.{ℕ, _+_, _*_, _-_, _^_, _≤_, _<_}
 use native.Mathlib.Nat.{mul-le-mul, mul-le-mul-left, mul-le-mul-right, le-refl, le-of-eq, le-of-lt, le-trans, add-sub-of-le, mul-pos}
 use native.Mathlib.Omega.{arith}
 use lib.Pow.{pow-pos}
-use lib.IntN.{ℤ, pos, natAbs, _+ℤ_, _-ℤ_, _*ℤ_}
+use lib.IntN.{ℤ, pos, _+ℤ_, _-ℤ_, _*ℤ_}
 use lib.Signed.{_≤ℤ_}
 use Rattle.numbers.proofs.Ring.{Ex, #, _:+_, _:-_, _:*_, ring}
 use Rattle.numbers.proofs.Order.{nat, less, _⊕_, _⊗_, gap, certified}
@@ -14,8 +14,8 @@ use Rattle.engine.specs.declared.Control.{Control}
 use Rattle.engine.specs.declared.Registers.{Registers}
 use Rattle.engine.specs.Curve.{Curve, curve, exact}
 use Rattle.engine.proofs.Begin.{Extent, Reach, thirdE, secondE, firstE}
-use Rattle.engine.proofs.Exact.{alpha, beta, chord, lag, alphaE, betaE, chordE, lagE}
-use Rattle.engine.proofs.Refined.{Bracket, bracket, refined}
+use Rattle.engine.proofs.Exact.{alpha, beta, chord, lag, alphaE, betaE, chordE}
+use Rattle.engine.proofs.Refined.{bracket, refined}
 use Rattle.engine.proofs.Turns.{On}
 use Rattle.engine.proofs.Bernstein.{bernstein, cube}
 use Rattle.distance.proofs.Near.{At, scale, near}

@@ -2,7 +2,7 @@
 use mathlib.Core.Path.{_≡_}
 use mathlib.Core.Bool.{true}
 use Prim.Native.Nat.{ℕ, _*_, _^_, _<_}
-use lib.IntN.{ℤ, pos, natAbs, _-ℤ_, _*ℤ_}
+use lib.IntN.{pos, natAbs, _-ℤ_, _*ℤ_}
 use Rattle.rules.specs.Rules.{areLimits}
 use Rattle.engine.specs.declared.Registers.{Registers}
 use Rattle.engine.specs.declared.Drawing.{Drawing}

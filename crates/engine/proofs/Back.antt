@@ -1,10 +1,9 @@
 -- Halve and double undo one another in one coordinate.
-use mathlib.Core.Path.{_≡_, refl, sym, ap, ap₂, _∙_}
-use Prim.Native.Nat.{ℕ, suc, _+_, _^_}
+use mathlib.Core.Path.{_≡_, sym, ap, ap₂, _∙_}
+use Prim.Native.Nat.{ℕ, suc, _+_}
 use native.Mathlib.Omega.{arith}
 use lib.Dec.{lit<}
 use lib.IntN.{ℤ, pos, _+ℤ_, _-ℤ_, _*ℤ_, +ℤ-negℤ-cancel, -ℤ-+ℤ-cancel}
-use lib.Signed.{shrZ}
 use Rattle.numbers.proofs.Floor.{floor-multiple}
 use Rattle.engine.specs.declared.Registers.{Registers}
 use Rattle.engine.specs.Registers.{halve, double, turn, _>>_}

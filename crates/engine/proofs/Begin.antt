@@ -1,7 +1,7 @@
 -- The start, by the differences of neighbours and with nested floors, as the code reckons it.
-use mathlib.Core.Path.{_≡_, sym, ap, ap₂, _∙_}
-use mathlib.Core.Bool.{true, _&&_}
-use Prim.Native.Nat.{ℕ, _+_, _-_, _*_, _^_, _≤_}
+use mathlib.Core.Path.{_≡_, sym, ap, _∙_}
+use mathlib.Core.Bool.{true}
+use Prim.Native.Nat.{ℕ, _+_, _-_, _^_, _≤_}
 use native.Mathlib.Omega.{arith}
 use lib.IntN.{ℤ, pos, _+ℤ_, _-ℤ_, _*ℤ_}
 use lib.Pow.{pow-pos, pow-add}
@@ -10,7 +10,7 @@ use Rattle.numbers.proofs.Ring.{Ex, #, _:+_, _:-_, _:*_, ring}
 use Rattle.numbers.proofs.Parts.{*ℤ-assoc}
 use Rattle.numbers.proofs.Floor.{floor-plus, floor-floor, floor-multiple}
 use Rattle.numbers.proofs.Size.{Size}
-use Rattle.numbers.proofs.Tests.{and-true}
+use Rattle.numbers.proofs.Tests.{and-three, and-four}
 use Rattle.rules.specs.Rules.{isCoordinate, areNeighbours, reach}
 use Rattle.rules.proofs.Laws.{coordinate-size, neighbours-size}
 use Rattle.engine.specs.declared.Control.{Control}
@@ -36,32 +36,22 @@ pub record Reach (W : ℕ) (p : Control) : Type 0 where
 pub extent : (p : Control) → areCoordinates p ≡ true → Extent 16384 p
 unfolding areCoordinates
 extent p e =
-    let c0 = isCoordinate (p .p0) in
-    let c1 = isCoordinate (p .p1) in
-    let c2 = isCoordinate (p .p2) in
-    let c3 = isCoordinate (p .p3) in
-    let three = and-true (c0 && c1 && c2) c3 e in
-    let two = and-true (c0 && c1) c2 (three .0) in
-    let one = and-true c0 c1 (two .0) in
+    let t = and-four (isCoordinate (p .p0)) (isCoordinate (p .p1)) (isCoordinate (p .p2)) (isCoordinate (p .p3)) e in
     record {
-      p0 = coordinate-size (p .p0) (one .0);
-      p1 = coordinate-size (p .p1) (one .1);
-      p2 = coordinate-size (p .p2) (two .1);
-      p3 = coordinate-size (p .p3) (three .1);
+      p0 = coordinate-size (p .p0) (t .0);
+      p1 = coordinate-size (p .p1) (t .1);
+      p2 = coordinate-size (p .p2) (t .2);
+      p3 = coordinate-size (p .p3) (t .3);
     }
 
 pub reaches : (p : Control) → areNear p ≡ true → Reach reach p
 unfolding areNear
 reaches p e =
-    let n1 = areNeighbours (p .p0) (p .p1) in
-    let n2 = areNeighbours (p .p1) (p .p2) in
-    let n3 = areNeighbours (p .p2) (p .p3) in
-    let two = and-true (n1 && n2) n3 e in
-    let one = and-true n1 n2 (two .0) in
+    let t = and-three (areNeighbours (p .p0) (p .p1)) (areNeighbours (p .p1) (p .p2)) (areNeighbours (p .p2) (p .p3)) e in
     record {
-      first = neighbours-size (p .p0) (p .p1) (one .0);
-      second = neighbours-size (p .p1) (p .p2) (one .1);
-      third = neighbours-size (p .p2) (p .p3) (two .1);
+      first = neighbours-size (p .p0) (p .p1) (t .0);
+      second = neighbours-size (p .p1) (p .p2) (t .1);
+      third = neighbours-size (p .p2) (p .p3) (t .2);
     }
 
 -- ---- the start's a is whole: 65,536·6A·δ with no floor, and so is b

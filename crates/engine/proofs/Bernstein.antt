@@ -4,7 +4,7 @@ use Prim.Native.Nat.{ℕ, _+_, _*_, _^_}
 use native.Mathlib.Omega.{arith}
 use lib.Pow.{pow-add}
 use lib.IntN.{pos, _+ℤ_, _*ℤ_}
-use Rattle.numbers.proofs.Ring.{#, _:+_, _:-_, _:*_, ring}
+use Rattle.numbers.proofs.Ring.{#, _:+_, _:*_, ring}
 use Rattle.engine.specs.declared.Control.{Control}
 use Rattle.engine.specs.Curve.{curve, exact}
 use Rattle.engine.proofs.Begin.{thirdE, secondE, firstE}

@@ -9,8 +9,6 @@ use lib.Dec.{T, eqb, eqb→eq}
 use lib.IntN.{ℤ, pos, negsuc}
 use Rattle.numbers.proofs.Tables.{All, every, tested, eqbℤ, eqbℤ→eq}
 use Rattle.rules.specs.Rules.{finest, isCoordinate, areNeighbours, isLevel}
-use Rattle.engine.specs.declared.Registers.{Registers}
-use Rattle.engine.specs.declared.Drawing.{Drawing}
 use Rattle.engine.specs.declared.Control.{Control}
 use Rattle.engine.specs.declared.Moved.{Moved}
 use Rattle.engine.specs.Curve.{curve}

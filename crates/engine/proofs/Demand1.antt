@@ -1,18 +1,17 @@
 -- Demand 1 for the engine: every entry answers, or refuses by a number of its table, and a refusal changes nothing.
-use mathlib.Core.Path.{_≡_, refl, sym, ap, _∙_}
+use mathlib.Core.Path.{_≡_, refl}
 use mathlib.Core.Bool.{Bool, true, false, cond, _&&_}
-use mathlib.Core.Option.{Option, none}
+use mathlib.Core.Option.{none}
 use Prim.Native.Nat.{ℕ, zero, suc, _^_}
 use lib.Dec.{ltb}
-use Rattle.rules.specs.Rules.{unless, Among, areLimits, isLevel, standardUpper, standardLower}
+use Rattle.rules.specs.Rules.{Among, areLimits, isLevel, standardUpper, standardLower}
 use Rattle.rules.proofs.Laws.{line-among, among}
 use Rattle.engine.specs.declared.Drawing.{Drawing}
-use Rattle.engine.specs.declared.Moved.{Moved}
 use Rattle.engine.specs.declared.Control.{Control}
 use Rattle.engine.specs.Registers.{Operation, halve, double, step}
 use Rattle.engine.specs.Drawing.{isDrawing, isAligned, ownRefusal, gated, callRefusal, callTable, turned, areRegisters, refused, landed, answered, called}
 use Rattle.engine.specs.Start.{areCoordinates, areNear, startRefusal, startTable, nothingDrawn, begun, firstDrawing, started}
-use Rattle.engine.specs.Choice.{Said, chosen, choiceRefusal, choiceTable, standardTable, replied, choice}
+use Rattle.engine.specs.Choice.{chosen, choiceRefusal, choiceTable, standardTable, replied, choice}
 
 -- ---- halve, double and step
 

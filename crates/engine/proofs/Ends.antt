@@ -2,13 +2,13 @@
 -- chosen with a look at the doubled increments.
 use mathlib.Core.Path.{_≡_, refl}
 use mathlib.Core.Bool.{Bool, true, false, cond, _&&_, _||_}
-use Prim.Native.Nat.{ℕ, _+_, _-_, _*_, _%_, _^_, _≤_, _<_}
+use Prim.Native.Nat.{ℕ, _+_, _-_, _*_, _^_, _≤_, _<_}
 use native.Mathlib.Nat.{mul-le-mul-right}
 use native.Mathlib.Omega.{arith}
 use lib.Dec.{leb, ltb}
 use lib.Pow.{pow-pos}
 use borrow.Author.Tests.{ltb-true, leb-true, le-ltb}
-use Rattle.numbers.proofs.Tests.{and-true}
+use Rattle.numbers.proofs.Tests.{and-true, and-four}
 use Rattle.engine.specs.declared.Drawing.{Drawing}
 use Rattle.engine.specs.Registers.{Operation, halve, double, step}
 use Rattle.engine.specs.Drawing.{stride, isAligned, turned}
@@ -53,18 +53,14 @@ pub double-chosen : (F upper lower : ℕ) (d : Drawing) → wantsDouble F upper 
 unfolding wantsDouble
 double-chosen F upper lower d e =
     let n = d .level in
-    let above = ltb 0 n in
     let small = ltb (increment n (d .x)) lower && ltb (increment n (d .y)) lower in
-    let aligned = isAligned F n (d .q) in
-    let dx = leb (doubledIncrement n (d .x)) upper in
-    let dy = leb (doubledIncrement n (d .y)) upper in
-    let three = and-true (above && small && aligned) (dx && dy) e in
-    let two = and-true (above && small) aligned (three .0) in
-    let one = and-true above small (two .0) in
-    let both = and-true dx dy (three .1) in
+    let x = leb (doubledIncrement n (d .x)) upper in
+    let y = leb (doubledIncrement n (d .y)) upper in
+    let t = and-four (ltb 0 n) small (isAligned F n (d .q)) (x && y) e in
+    let both = and-true x y (t .3) in
     record {
-      above = ltb-true 0 n (one .0);
-      aligned = two .1;
+      above = ltb-true 0 n (t .0);
+      aligned = t .2;
       x = leb-true (doubledIncrement n (d .x)) upper (both .0);
       y = leb-true (doubledIncrement n (d .y)) upper (both .1);
     }

@@ -1,6 +1,6 @@
 -- Four numbers of 32 bits, as registers and control points are, and what the machine holds of them.
 use mathlib.Core.Path.{_≡_, ap}
-use mathlib.Core.Bool.{true, _&&_}
+use mathlib.Core.Bool.{true}
 use Prim.Native.Nat.{ℕ, _+_, _^_, _<_}
 use native.Mathlib.Omega.{arith}
 use lib.IntN.{ℤ, pos, negsuc}
@@ -12,7 +12,7 @@ use mir.Val.{SFits, toZ, ofZ}
 use borrow.Author.Tests.{leb-true}
 use Rattle.numbers.proofs.Machine.{Num, fits-size, reads-back, widens}
 use Rattle.numbers.proofs.Size.{Size, size-sum, size-shift}
-use Rattle.numbers.proofs.Tests.{and-true}
+use Rattle.numbers.proofs.Tests.{and-true, and-four}
 use Rattle.engine.specs.declared.Registers.{Registers}
 use Rattle.engine.specs.declared.Wide.{Wide}
 use Rattle.engine.specs.Registers.{double, turn}
@@ -49,14 +49,12 @@ register-fits (negsuc n) e =
 pub registers-fit : (r : Registers) → areRegisters r ≡ true → Fits32 r
 unfolding areRegisters
 registers-fit r e =
-    let abc = and-true (isRegister (r .a) && isRegister (r .b) && isRegister (r .c)) (isRegister (r .d)) e in
-    let ab = and-true (isRegister (r .a) && isRegister (r .b)) (isRegister (r .c)) (abc .0) in
-    let aa = and-true (isRegister (r .a)) (isRegister (r .b)) (ab .0) in
+    let t = and-four (isRegister (r .a)) (isRegister (r .b)) (isRegister (r .c)) (isRegister (r .d)) e in
     record {
-      a = register-fits (r .a) (aa .0);
-      b = register-fits (r .b) (aa .1);
-      c = register-fits (r .c) (ab .1);
-      d = register-fits (r .d) (abc .1);
+      a = register-fits (r .a) (t .0);
+      b = register-fits (r .b) (t .1);
+      c = register-fits (r .c) (t .2);
+      d = register-fits (r .d) (t .3);
     }
 
 -- the widened registers, as the machine holds them

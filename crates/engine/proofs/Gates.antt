@@ -8,15 +8,14 @@ use native.Mathlib.Omega.{arith}
 use lib.Dec.{leb, ltb, eqb}
 use lib.Pow.{pow-add, pow-pos}
 use borrow.Author.Tests.{leb-true, ltb-true, eqb-true}
-use Rattle.numbers.proofs.Tests.{by-test, and-true}
+use Rattle.numbers.proofs.Tests.{and-true, and-three}
 use Rattle.rules.specs.Rules.{unless, areLimits, isLevel}
 use Rattle.rules.proofs.Laws.{rule-kept}
 use Rattle.engine.specs.declared.Drawing.{Drawing}
 use Rattle.engine.specs.declared.Control.{Control}
-use Rattle.engine.specs.declared.Moved.{Moved}
 use Rattle.engine.specs.Registers.{Operation, double}
 use Rattle.engine.specs.Drawing.{stride, isDrawing, isAligned, ownRefusal, gated, callRefusal, turned, refused, landed, answered, called}
-use Rattle.engine.specs.Choice.{Said, chosen, replied, choiceRefusal, choice}
+use Rattle.engine.specs.Choice.{chosen, replied, choiceRefusal, choice}
 use Rattle.engine.specs.Start.{areCoordinates, areNear, startRefusal, nothingDrawn, begun, firstDrawing, started}
 
 -- ---- level and q
@@ -29,12 +28,11 @@ pub record Inside (F n q : ℕ) : Type 0 where
 pub inside : (F n q : ℕ) → isDrawing F n q ≡ true → Inside F n q
 unfolding isDrawing
 inside F n q e =
-    let two = and-true (leb n F && leb q (2 ^ F)) (eqb (q % stride F n) 0) e in
-    let one = and-true (leb n F) (leb q (2 ^ F)) (two .0) in
+    let t = and-three (leb n F) (leb q (2 ^ F)) (eqb (q % stride F n) 0) e in
     record {
-      level = leb-true n F (one .0);
-      position = leb-true q (2 ^ F) (one .1);
-      whole = eqb-true (q % stride F n) 0 (two .1);
+      level = leb-true n F (t .0);
+      position = leb-true q (2 ^ F) (t .1);
+      whole = eqb-true (q % stride F n) 0 (t .2);
     }
 
 -- a gate that lets through

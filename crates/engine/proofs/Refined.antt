@@ -8,7 +8,7 @@ use lib.Dec.{lit<}
 use lib.Pow.{pow-pos, pow-add}
 use lib.IntN.{ℤ, pos, _+ℤ_, _-ℤ_, _*ℤ_, +ℤ-negℤ-cancel}
 use lib.Signed.{shrZ, _≤ℤ_, ≤ℤ-refl}
-use Rattle.numbers.proofs.Ring.{Ex, #, _:+_, _:-_, _:*_, ring}
+use Rattle.numbers.proofs.Ring.{#, _:+_, _:-_, _:*_, ring}
 use Rattle.numbers.proofs.Order.{≤ℤ-trans, nat, less, _⊕_, _⊗_, gap, certified}
 use Rattle.numbers.proofs.Floor.{floor-low, floor-high, floor-multiple}
 use Rattle.engine.specs.declared.Registers.{Registers}

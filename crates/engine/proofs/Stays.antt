@@ -1,18 +1,18 @@
 -- An accepted operation leads to a drawing again: level from 0 to F, q up to the end and a multiple of the new s. That is what
 -- refusals 5, 6, 7 and 8 are for.
-use mathlib.Core.Path.{_≡_, sym, ap, ap₂, _∙_, subst}
+use mathlib.Core.Path.{_≡_, sym, ap, _∙_, subst}
 use mathlib.Core.Bool.{true, _&&_}
-use Prim.Native.Nat.{ℕ, zero, suc, _+_, _-_, _*_, _/_, _%_, _^_, _≤_, _<_}
+use Prim.Native.Nat.{ℕ, suc, _+_, _-_, _*_, _/_, _%_, _^_, _≤_, _<_}
 use native.Mathlib.Nat.{pow-succ', div-add-mod', add-zero, mul-mod-left, mul-assoc, mul-le-mul-right, lt-of-mul-lt-mul-right}
 use native.Mathlib.Omega.{arith}
-use lib.Dec.{ltb, leb, eqb}
+use lib.Dec.{ltb}
 use lib.Pow.{pow-add}
 use borrow.Author.Tests.{ltb-true, eqb-true, le-leb, eq-eqb}
 use Rattle.rules.specs.Rules.{unless}
 use Rattle.rules.proofs.Laws.{rule-kept}
 use Rattle.engine.specs.Registers.{Operation, halve, double, step}
-use Rattle.engine.specs.Drawing.{stride, isDrawing, isAligned, ownRefusal, callRefusal, newLevel, newPosition}
-use Rattle.engine.proofs.Gates.{Inside, Open, call-opens}
+use Rattle.engine.specs.Drawing.{stride, isDrawing, isAligned, callRefusal, newLevel, newPosition}
+use Rattle.engine.proofs.Gates.{Open, call-opens}
 
 -- ---- multiples
 

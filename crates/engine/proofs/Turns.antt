@@ -1,6 +1,6 @@
 -- What holds of one coordinate of every drawing, and that the start and each operation keep it: a and b are exact, c's error is
 -- bounded as it would be at the finest level, which halve and double leave as it is, and d's error by q alone.
-use mathlib.Core.Path.{_≡_, refl, sym, ap, ap₂, _∙_, subst}
+use mathlib.Core.Path.{_≡_, sym, ap, ap₂, _∙_, subst}
 use Prim.Native.Nat.{ℕ, suc, _+_, _*_, _^_, _≤_, _<_}
 use native.Mathlib.Nat.{pow-succ', mul-assoc, mul-pos, zero-mul, mul-le-mul-right, lt-of-mul-lt-mul-right}
 use borrow.Author.Needs.{zero≤}
@@ -9,13 +9,13 @@ use lib.Pow.{pow-pos, pow-add}
 use lib.IntN.{ℤ, pos, _+ℤ_, _-ℤ_, _*ℤ_}
 use lib.Signed.{shrZ, _≤ℤ_, ≤ℤ-refl}
 use Rattle.numbers.proofs.Ring.{#, _:+_, _:-_, _:*_, ring}
-use Rattle.numbers.proofs.Order.{nat, less, _⊕_, _⊗_, gap, certified}
+use Rattle.numbers.proofs.Order.{nat, less}
 use Rattle.numbers.proofs.Floor.{floor-low, floor-high, floor-multiple}
 use Rattle.engine.specs.declared.Registers.{Registers}
 use Rattle.engine.specs.Curve.{Curve}
 use Rattle.engine.specs.Registers.{halve, double, step, turn, startRegisters, unit, _>>_}
 use Rattle.engine.proofs.Back.{halve-after-double}
-use Rattle.engine.proofs.Exact.{alpha, beta, chord, place, lag, miss, drift, placeE, step-lag-low, step-lag-high, step-miss, step-low, step-high, drift-low, drift-high, start-low, start-high}
+use Rattle.engine.proofs.Exact.{alpha, chord, place, lag, miss, drift, placeE, step-lag-low, step-lag-high, step-miss, step-low, step-high, drift-low, drift-high, start-low, start-high}
 use Rattle.engine.proofs.Refined.{Exactly, halve-exact, double-exact, step-exact, refined, next-levels, Bracket, bracket}
 
 -- G = 2^F and κ·G = 65,536; the level is n, with j finer ones below it

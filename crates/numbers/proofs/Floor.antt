@@ -1,13 +1,13 @@
 -- The floor of z / m, `shrZ z m`: the one whole number y with m·y ≤ z ≤ m·y + m - 1, and what follows from that.
-use mathlib.Core.Path.{_≡_, refl, sym, ap, _∙_, subst}
-use Prim.Native.Nat.{ℕ, zero, suc, _+_, _*_, _-_, _/_, _%_, _≤_, _<_}
+use mathlib.Core.Path.{_≡_, sym}
+use Prim.Native.Nat.{ℕ, zero, suc, _+_, _*_, _/_, _<_}
 use native.Mathlib.Nat.{div-add-mod, mod-lt, mul-pos}
 use native.Mathlib.Omega.{arith}
-use lib.IntN.{ℤ, pos, negsuc, negℤ, _+ℤ_, _-ℤ_, _*ℤ_}
+use lib.IntN.{ℤ, pos, negsuc, _+ℤ_, _-ℤ_, _*ℤ_}
 use lib.Signed.{shrZ, _≤ℤ_, ≤ℤ-refl}
-use Rattle.numbers.proofs.Parts.{up, down, same, add-parts, mul-parts, neg-parts}
+use Rattle.numbers.proofs.Parts.{up, down, same, add-parts, mul-parts}
 use Rattle.numbers.proofs.Ring.{#, _:+_, _:-_, _:*_, ring}
-use Rattle.numbers.proofs.Order.{le-parts, parts-le, ≤ℤ-trans, ≤ℤ-antisym, pos-le, nat, less, _⊕_, _⊗_, gap, certified}
+use Rattle.numbers.proofs.Order.{le-parts, parts-le, ≤ℤ-antisym, pos-le, nat, less, _⊕_, _⊗_, gap, certified}
 
 pub floor-low : (z : ℤ) (m : ℕ) → 0 < m → (pos m *ℤ shrZ z m) ≤ℤ z
 floor-low (pos a) m h = pos-le (omega (arith, div-add-mod a m))

@@ -1,11 +1,11 @@
 -- The order of ℤ. An inequality is shown by a certificate: y - x is, by a ring identity, a sum of products of numbers that are
 -- known to be 0 or more.
 use mathlib.Core.Path.{_≡_, sym, subst}
-use Prim.Native.Nat.{ℕ, zero, suc, _+_, _*_, _≤_, _<_}
+use Prim.Native.Nat.{ℕ, _+_, _*_, _≤_}
 use native.Mathlib.Omega.{arith}
 use lib.Dec.{leb→le, le→leb}
 use lib.IntN.{ℤ, pos, negsuc, negℤ, _+ℤ_, _-ℤ_, _*ℤ_}
-use lib.Signed.{_≤ℤ_, leZ}
+use lib.Signed.{_≤ℤ_}
 use Rattle.numbers.proofs.Parts.{up, down, add-parts, neg-parts}
 
 -- ---- the order in the parts, for `omega`

@@ -23,6 +23,18 @@ pub and-true : (a b : Bool) → (a && b) ≡ true → (a ≡ true) × (b ≡ tru
 and-true true b e = (refl, e)
 and-true false b e = absurd (false≢true e)
 
+pub and-three : (a b c : Bool) → (a && b && c) ≡ true → (a ≡ true) × (b ≡ true) × (c ≡ true)
+and-three a b c e =
+    let two = and-true (a && b) c e in
+    let one = and-true a b (two .0) in
+    (one .0, one .1, two .1)
+
+pub and-four : (a b c d : Bool) → (a && b && c && d) ≡ true → (a ≡ true) × (b ≡ true) × (c ≡ true) × (d ≡ true)
+and-four a b c d e =
+    let three = and-true (a && b && c) d e in
+    let two = and-three a b c (three .0) in
+    (two .0, two .1, two .2, three .1)
+
 pub true-and : {a b : Bool} → a ≡ true → b ≡ true → (a && b) ≡ true
 true-and e f = λ i. e i && f i
 

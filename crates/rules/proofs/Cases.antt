@@ -5,7 +5,7 @@ use mathlib.Core.List.{List, [], _∷_}
 use Prim.Native.Nat.{ℕ}
 use lib.Dec.{T}
 use lib.IntN.{ℤ, pos, negsuc}
-use Rattle.numbers.proofs.Tables.{All, every, tested}
+use Rattle.numbers.proofs.Tables.{All, tested}
 use Rattle.rules.specs.Rules.{finest, isCoordinate, areNeighbours, isLevel, areLimits, isSize}
 
 pub data Rule : Type 0 where

@@ -1,6 +1,6 @@
 -- How tables of refusals are read, and what the rules say of the numbers that they accept.
 use mathlib.Core.Path.{_≡_, refl}
-use mathlib.Core.Bool.{Bool, true, false, _&&_}
+use mathlib.Core.Bool.{Bool, true, false}
 use mathlib.Core.List.{List}
 use Prim.Native.Nat.{ℕ, suc, _≤_}
 use native.Mathlib.Omega.{arith}
@@ -8,7 +8,7 @@ use lib.Dec.{T, leb}
 use lib.IntN.{ℤ, pos, negsuc, _-ℤ_}
 use borrow.Author.Tests.{leb-true}
 use Rattle.numbers.proofs.Size.{Size}
-use Rattle.numbers.proofs.Tests.{and-true}
+use Rattle.numbers.proofs.Tests.{and-true, and-three}
 use Rattle.rules.specs.Rules.{unless, isAmong, Among, isCoordinate, areNeighbours, reach, areLimits}
 
 -- ---- tables of refusals
@@ -46,6 +46,5 @@ pub record Limits (upper lower : ℕ) : Type 0 where
 pub limits-hold : (upper lower : ℕ) → areLimits upper lower ≡ true → Limits upper lower
 unfolding areLimits
 limits-hold upper lower e =
-    let two = and-true (leb 1 upper && leb upper 65536) (leb lower upper) e in
-    let one = and-true (leb 1 upper) (leb upper 65536) (two .0) in
-    record { some = leb-true 1 upper (one .0); most = leb-true upper 65536 (one .1); order = leb-true lower upper (two .1) }
+    let t = and-three (leb 1 upper) (leb upper 65536) (leb lower upper) e in
+    record { some = leb-true 1 upper (t .0); most = leb-true upper 65536 (t .1); order = leb-true lower upper (t .2) }

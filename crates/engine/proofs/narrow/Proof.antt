@@ -1,7 +1,4 @@
-use mathlib.Core.Path.{sym, subst}
 use mir.Facts.{toZ-ofZ}
-use mir.Syntax.{w32}
-use mir.Val.{SFits}
 use Rattle.numbers.proofs.Machine.{reads-back, widens, narrows}
 use Rattle.engine.proofs.Fitting.{registers-fit}
 use Rattle.engine.proofs.narrow.Statement.{statement}

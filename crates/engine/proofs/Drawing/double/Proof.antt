@@ -1,11 +1,11 @@
 use mathlib.Core.Path.{_≡_, sym, _∙_}
-use Prim.Native.Nat.{_+_, _-_, _≤_}
+use Prim.Native.Nat.{_-_, _≤_}
 use borrow.Author.Needs.{needs}
 use borrow.Author.Tests.{ltb-true}
 use Rattle.rules.proofs.Laws.{rule-kept}
 use Rattle.engine.specs.Registers.{double}
 use Rattle.engine.specs.Drawing.{callRefusal, turned, landed}
-use Rattle.engine.proofs.Gates.{Open, call-opens, call-refused, call-landed}
+use Rattle.engine.proofs.Gates.{call-opens, call-refused, call-landed}
 use Rattle.engine.proofs.Drawing.double.Statement.{statement}
 use Rattle.engine.proofs.Drawing.double.Tie as tie
 

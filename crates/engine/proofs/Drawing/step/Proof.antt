@@ -1,11 +1,11 @@
 use mathlib.Core.Path.{_≡_, sym, _∙_}
-use Prim.Native.Nat.{_+_, _-_, _≤_}
+use Prim.Native.Nat.{_+_, _≤_}
 use native.Mathlib.Omega.{arith}
 use borrow.Author.Needs.{needs}
 use lib.Pow.{shr-le}
 use Rattle.engine.specs.Registers.{step}
 use Rattle.engine.specs.Drawing.{callRefusal, turned, landed}
-use Rattle.engine.proofs.Gates.{Open, call-opens, call-refused, call-landed, stride-is}
+use Rattle.engine.proofs.Gates.{call-opens, call-refused, call-landed, stride-is}
 use Rattle.engine.proofs.Drawing.step.Statement.{statement}
 use Rattle.engine.proofs.Drawing.step.Tie as tie
 

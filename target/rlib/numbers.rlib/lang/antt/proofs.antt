@@ -7,3 +7,4 @@ pub mod Size
 pub mod Machine
 pub mod Tests
 pub mod Tables
+pub mod Buffers

@@ -2,7 +2,7 @@
 -- A proof follows its code: a parameter or a field is `field`, what went through a local is `local`, and `shift`, `plus`, `minus` and
 -- `times` are the operations. The bounds are numerals that antt computes, so that each condition is `tt`.
 use mathlib.Core.Path.{_≡_, refl, sym, ap, _∙_, subst}
-use Prim.Native.Nat.{ℕ, zero, suc, _+_, _*_, _^_, _≤_, _<_}
+use Prim.Native.Nat.{ℕ, _+_, _*_, _^_, _≤_, _<_}
 use native.Mathlib.Nat.{lt-of-le-of-lt, le-of-lt}
 use native.Mathlib.Omega.{arith}
 use lib.Dec.{T, leb, ltb, leb→le, ltb→lt}
