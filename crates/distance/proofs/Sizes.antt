@@ -14,7 +14,7 @@ use Rattle.engine.specs.declared.Control.{Control}
 use Rattle.engine.specs.declared.Registers.{Registers}
 use Rattle.engine.specs.Curve.{Curve, curve, exact}
 use Rattle.engine.proofs.Begin.{Extent, Reach, thirdE, secondE, firstE}
-use Rattle.engine.proofs.Exact.{alpha, beta, chord, lag, alphaE, betaE, chordE}
+use Rattle.engine.proofs.Exact.{alphaOf, betaOf, chordOf, lagOf, alphaE, betaE, chordE}
 use Rattle.engine.proofs.Refined.{bracket, refined}
 use Rattle.engine.proofs.Turns.{On}
 use Rattle.engine.proofs.Bernstein.{bernstein, cube}
@@ -23,7 +23,7 @@ use Rattle.distance.proofs.Near.{At, scale, near}
 -- ---- the exact registers as sums of differences
 
 alpha-sum : (κ s : ℕ) (p : Control)
-    → alpha (pos κ) (curve p .A) (pos s) ≡ pos (κ * s * 6) *ℤ ((p .p3 -ℤ p .p2) +ℤ (pos 0 -ℤ pos 2) *ℤ (p .p2 -ℤ p .p1) +ℤ (p .p1 -ℤ p .p0))
+    → alphaOf κ (curve p) s ≡ pos (κ * s * 6) *ℤ ((p .p3 -ℤ p .p2) +ℤ (pos 0 -ℤ pos 2) *ℤ (p .p2 -ℤ p .p1) +ℤ (p .p1 -ℤ p .p0))
 unfolding curve
 alpha-sum κ s p =
     ring 6 (λ κ s p0 p1 p2 p3. (
@@ -32,7 +32,7 @@ alpha-sum κ s p =
     )) tt (pos κ) (pos s) (p .p0) (p .p1) (p .p2) (p .p3)
 
 beta-sum : (κ G s q : ℕ) (p : Control)
-    → beta (pos κ) (pos G) (curve p .A) (curve p .B) (pos s) (pos q)
+    → betaOf κ G (curve p) s q
     ≡ pos (κ * 6) *ℤ (pos (q + s) *ℤ (p .p3 -ℤ p .p2) +ℤ (pos G -ℤ pos (2 * (q + s))) *ℤ (p .p2 -ℤ p .p1) +ℤ (pos (q + s) -ℤ pos G) *ℤ (p .p1 -ℤ p .p0))
 unfolding curve
 beta-sum κ G s q p =
@@ -55,7 +55,7 @@ abbrev spanE : Ex → Ex → Ex → Ex
 spanE G q s = # 3 :* G :* (# 2 :* q :+ s)
 
 pub chord-sum : (κ G s q : ℕ) (p : Control)
-    → chord (pos κ) (pos G) (curve p .A) (curve p .B) (curve p .C) (pos s) (pos q)
+    → chordOf κ G (curve p) s q
     ≡ pos (κ * G) *ℤ (pos (ahead q s) *ℤ (p .p3 -ℤ p .p2) +ℤ (pos (span G q s) -ℤ pos (2 * ahead q s)) *ℤ (p .p2 -ℤ p .p1) +ℤ (pos (ahead q s + 3 * G * G) -ℤ pos (span G q s)) *ℤ (p .p1 -ℤ p .p0))
 unfolding curve
 chord-sum κ G s q p =
@@ -67,12 +67,12 @@ chord-sum κ G s q p =
 -- ---- their sizes
 
 module _ (κ G W : ℕ) (p : Control) (v : Reach W p) where
-  alpha-size : (s : ℕ) → s ≤ G → Size (alpha (pos κ) (curve p .A) (pos s)) (κ * G * (24 * W))
+  alpha-size : (s : ℕ) → s ≤ G → Size (alphaOf κ (curve p) s) (κ * G * (24 * W))
   alpha-size s h =
       size-by (alpha-sum κ s p) (omega (arith, mul-le-mul-right W (mul-le-mul-left κ h)))
       (size-product (size-of (κ * s * 6)) (size-sum (size-sum (v .third) (size-product (size-apart {a = 0} {b = 2} {m = 2} (omega arith) (omega arith)) (v .second))) (v .first)))
 
-  beta-size : (s q : ℕ) → s ≤ G → q ≤ G → Size (beta (pos κ) (pos G) (curve p .A) (curve p .B) (pos s) (pos q)) (κ * G * (36 * W))
+  beta-size : (s q : ℕ) → s ≤ G → q ≤ G → Size (betaOf κ G (curve p) s q) (κ * G * (36 * W))
   beta-size s q h k =
       let w3 = size-product (size-by refl (sum-most s q h k) (size-of (q + s))) (v .third) in
       let w2 = size-product (size-apart {a = G} {b = 2 * (q + s)} {m = 3 * G} (omega arith) (omega arith)) (v .second) in
@@ -83,7 +83,7 @@ module _ (κ G W : ℕ) (p : Control) (v : Reach W p) where
       sum-most s q h k = omega arith
 
   chord-size : (s q : ℕ) → s ≤ G → q ≤ G
-      → Size (chord (pos κ) (pos G) (curve p .A) (curve p .B) (curve p .C) (pos s) (pos q)) (κ * G * (31 * W) * (G * G))
+      → Size (chordOf κ G (curve p) s q) (κ * G * (31 * W) * (G * G))
   chord-size s q h k =
       let qq = mul-le-mul k k in
       let qs = mul-le-mul k h in
@@ -118,11 +118,11 @@ step-most n j G e = subst (λ (t : ℕ). 2 ^ j ≤ t) (sym e) (go (2 ^ n) (2 ^ j
     go x y h = omega (arith, mul-le-mul h (le-refl y))
 
 pub lag-size : (κ G : ℕ) (f : Curve) (n j q : ℕ) (r : Registers) → On κ G f n j q r
-    → Size (lag (pos G) (r .c) (chord (pos κ) (pos G) (f .A) (f .B) (f .C) (pos (2 ^ j)) (pos q))) (2 * G * (G * G))
+    → Size (lagOf κ G f (2 ^ j) q (r .c)) (2 * G * (G * G))
 lag-size κ G f n j q r o =
     let b = bracket κ G f q n j r (o .levels) (o .exact) in
-    let e : ℤ = lag (pos G) (r .c) (chord (pos κ) (pos G) (f .A) (f .B) (f .C) (pos (2 ^ j)) (pos q)) in
-    let E : ℤ = lag (pos G) (refined j n r .c) (chord (pos κ) (pos G) (f .A) (f .B) (f .C) (pos 1) (pos q)) in
+    let e : ℤ = lagOf κ G f (2 ^ j) q (r .c) in
+    let E : ℤ = lagOf κ G f 1 q (refined j n r .c) in
     let left = less (o .within) in
     size-between (lag-high (pos q) (pos G) E e (nat G) left (o .c-high) (b .low)) (lag-low (pos q) (pos (2 ^ j)) (pos G) E e (nat G) left (less (step-most n j G (o .levels))) (o .c-low) (b .high))
 
@@ -141,7 +141,7 @@ module _ (F W H : ℕ) (p : Control) (h : F ≤ 16) (v : Reach W p) (e : Extent 
   c-size : Size (r .c) (65536 * (31 * W) + 2 * 2 ^ F)
   c-size =
       let κ = 2 ^ (16 - F) in
-      let x : ℤ = chord (pos κ) (pos (2 ^ F)) (curve p .A) (curve p .B) (curve p .C) (pos (2 ^ j)) (pos q) in
+      let x : ℤ = chordOf κ (2 ^ F) (curve p) (2 ^ j) q in
       let exactly = chord-size κ (2 ^ F) W p v (2 ^ j) q (step-most n j (2 ^ F) (o .levels)) (o .within) in
       size-factor (2 ^ F * 2 ^ F) (mul-pos (pow-pos F) (pow-pos F))
       (size-by (ring 3 (λ c G x. (c :* (G :* G), (c :* G :* G :- x) :+ x)) tt (r .c) (pos (2 ^ F)) x) (total (κ * 2 ^ F) (2 ^ F * 2 ^ F) (2 * 2 ^ F) (sym (scale F h)))

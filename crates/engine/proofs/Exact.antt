@@ -2,9 +2,11 @@
 -- so that G = M·s; κ·G = 65,536. At step s and position q the registers a and b are `alpha` and `beta` exactly; c and d lose by their
 -- floors, c against `chord` / G² and d against `place` / G³.
 use mathlib.Core.Path.{_≡_}
+use Prim.Native.Nat.{ℕ}
 use lib.IntN.{ℤ, pos, _+ℤ_, _-ℤ_, _*ℤ_}
 use lib.Signed.{_≤ℤ_}
 use Rattle.numbers.proofs.Ring.{Ex, #, _:+_, _:-_, _:*_, ring}
+use Rattle.engine.specs.Curve.{Curve}
 use Rattle.numbers.proofs.Order.{_⊕_, _⊗_, gap, certified}
 
 abbrev pub alpha : ℤ → ℤ → ℤ → ℤ
@@ -33,6 +35,26 @@ miss G d y = d *ℤ G *ℤ G *ℤ G -ℤ y
 -- the bound of d's error at q
 abbrev pub drift : ℤ → ℤ → ℤ
 drift G q = (q *ℤ q +ℤ q *ℤ G -ℤ q) *ℤ G *ℤ G
+
+-- ---- the same of a curve, in the registers' own numbers
+
+abbrev pub alphaOf : ℕ → Curve → ℕ → ℤ
+alphaOf κ f s = alpha (pos κ) (f .A) (pos s)
+
+abbrev pub betaOf : ℕ → ℕ → Curve → ℕ → ℕ → ℤ
+betaOf κ G f s q = beta (pos κ) (pos G) (f .A) (f .B) (pos s) (pos q)
+
+abbrev pub chordOf : ℕ → ℕ → Curve → ℕ → ℕ → ℤ
+chordOf κ G f s q = chord (pos κ) (pos G) (f .A) (f .B) (f .C) (pos s) (pos q)
+
+abbrev pub placeOf : ℕ → ℕ → Curve → ℕ → ℤ
+placeOf κ G f q = place (pos κ) (pos G) (f .A) (f .B) (f .C) (f .D) (pos q)
+
+abbrev pub lagOf : ℕ → ℕ → Curve → ℕ → ℕ → ℤ → ℤ
+lagOf κ G f s q c = lag (pos G) c (chordOf κ G f s q)
+
+abbrev pub missOf : ℕ → ℕ → Curve → ℕ → ℤ → ℤ
+missOf κ G f q d = miss (pos G) d (placeOf κ G f q)
 
 -- ---- the same as expressions
 

@@ -14,13 +14,13 @@ use Rattle.numbers.proofs.Floor.{floor-low, floor-high, floor-multiple}
 use Rattle.engine.specs.declared.Registers.{Registers}
 use Rattle.engine.specs.Curve.{Curve}
 use Rattle.engine.specs.Registers.{halve, double, step, turn, _>>_}
-use Rattle.engine.proofs.Exact.{alpha, beta, chord, lag, alphaE, betaE, halve-lag-low, halve-lag-high}
+use Rattle.engine.proofs.Exact.{alpha, beta, alphaOf, betaOf, lagOf, alphaE, betaE, halve-lag-low, halve-lag-high}
 
 -- ---- a and b
 
 pub record Exactly (κ G : ℕ) (f : Curve) (s q : ℕ) (r : Registers) : Type 0 where
-  pub a : r .a ≡ alpha (pos κ) (f .A) (pos s)
-  pub b : r .b ≡ beta (pos κ) (pos G) (f .A) (f .B) (pos s) (pos q)
+  pub a : r .a ≡ alphaOf κ f s
+  pub b : r .b ≡ betaOf κ G f s q
 
 pub two-steps : (j : ℕ) → pos (2 ^ suc j) ≡ pos 2 *ℤ pos (2 ^ j)
 two-steps j = ap pos (pow-succ' 2 j)
@@ -36,16 +36,16 @@ beta-next : (κ G A B s q : ℤ) → beta κ G A B s q +ℤ alpha κ A s ≡ bet
 beta-next = ring 6 (λ κ G A B s q. (betaE κ G A B s q :+ alphaE κ A s, betaE κ G A B s (q :+ s))) tt
 
 module _ (κ G : ℕ) (f : Curve) where
-  pub half : (j q : ℕ) (r : Registers) → Exactly κ G f (2 ^ suc j) q r → r .a >> 1 ≡ alpha (pos κ) (f .A) (pos (2 ^ j))
+  pub half : (j q : ℕ) (r : Registers) → Exactly κ G f (2 ^ suc j) q r → r .a >> 1 ≡ alphaOf κ f (2 ^ j)
   half j q r x =
-      let al : ℤ = alpha (pos κ) (f .A) (pos (2 ^ j)) in
+      let al : ℤ = alphaOf κ f (2 ^ j) in
       ap (λ (z : ℤ). z >> 1) (x .a ∙ alpha-twice (pos κ) (f .A) (pos (2 ^ j)) (pos (2 ^ suc j)) (two-steps j)) ∙ floor-multiple al 2 (lit< tt)
 
   pub halve-exact : (n j q : ℕ) (r : Registers) → Exactly κ G f (2 ^ suc j) q r → Exactly κ G f (2 ^ j) q (turn halve n r)
   unfolding turn
   halve-exact n j q r x =
-      let al : ℤ = alpha (pos κ) (f .A) (pos (2 ^ j)) in
-      let be : ℤ = beta (pos κ) (pos G) (f .A) (f .B) (pos (2 ^ j)) (pos q) in
+      let al : ℤ = alphaOf κ f (2 ^ j) in
+      let be : ℤ = betaOf κ G f (2 ^ j) q in
       record {
         a = half j q r x;
         b =
@@ -90,10 +90,10 @@ next-levels n j = half-levels n j ∙ ap (λ (t : ℕ). t * 2 ^ j) (sym (pow-suc
 
 -- c's error at the finest level is what it is now and at most (s − 1)·G² more
 pub record Bracket (κ G : ℕ) (f : Curve) (n j q : ℕ) (r : Registers) : Type 0 where
-  pub low : lag (pos G) (r .c) (chord (pos κ) (pos G) (f .A) (f .B) (f .C) (pos (2 ^ j)) (pos q))
-      ≤ℤ lag (pos G) (refined j n r .c) (chord (pos κ) (pos G) (f .A) (f .B) (f .C) (pos 1) (pos q))
-  pub high : lag (pos G) (refined j n r .c) (chord (pos κ) (pos G) (f .A) (f .B) (f .C) (pos 1) (pos q))
-      ≤ℤ (lag (pos G) (r .c) (chord (pos κ) (pos G) (f .A) (f .B) (f .C) (pos (2 ^ j)) (pos q)) +ℤ (pos (2 ^ j) -ℤ pos 1) *ℤ pos G *ℤ pos G)
+  pub low : lagOf κ G f (2 ^ j) q (r .c)
+      ≤ℤ lagOf κ G f 1 q (refined j n r .c)
+  pub high : lagOf κ G f 1 q (refined j n r .c)
+      ≤ℤ (lagOf κ G f (2 ^ j) q (r .c) +ℤ (pos (2 ^ j) -ℤ pos 1) *ℤ pos G *ℤ pos G)
 
 bracket-high : (G s t E e e' : ℤ) → t ≡ pos 2 *ℤ s → pos 0 ≤ℤ (s -ℤ pos 1) → pos 0 ≤ℤ G
     → e' ≤ℤ (e +ℤ G *ℤ G) → E ≤ℤ (e' +ℤ (s -ℤ pos 1) *ℤ G *ℤ G) → E ≤ℤ (e +ℤ (t -ℤ pos 1) *ℤ G *ℤ G)
@@ -106,11 +106,8 @@ bracket-high G s t E e e' et hs hG h k =
     (gap h ⊕ gap k ⊕ hs ⊗ hG ⊗ hG))
 
 module _ (κ G : ℕ) (f : Curve) (q : ℕ) where
-  abbrev lag-at : ℕ → ℤ → ℤ
-  lag-at s c = lag (pos G) c (chord (pos κ) (pos G) (f .A) (f .B) (f .C) (pos s) (pos q))
-
   halved-c : (n j : ℕ) (r : Registers) → Exactly κ G f (2 ^ suc j) q r
-      → turn halve n r .c ≡ r .c -ℤ shrZ (beta (pos κ) (pos G) (f .A) (f .B) (pos (2 ^ j)) (pos q)) (4 * 2 ^ n)
+      → turn halve n r .c ≡ r .c -ℤ shrZ (betaOf κ G f (2 ^ j) q) (4 * 2 ^ n)
   unfolding turn
   halved-c n j r x = ap₂ (λ (z : ℤ) (m : ℕ). r .c -ℤ shrZ z m) (halve-exact κ G f n j q r x .b) (four n)
 
@@ -118,28 +115,28 @@ module _ (κ G : ℕ) (f : Curve) (q : ℕ) where
   four-pos n = omega (arith, pow-pos n)
 
   halve-low : (n j : ℕ) (r : Registers) → G ≡ 2 ^ n * 2 ^ suc j → Exactly κ G f (2 ^ suc j) q r
-      → lag-at (2 ^ suc j) (r .c) ≤ℤ lag-at (2 ^ j) (turn halve n r .c)
+      → lagOf κ G f (2 ^ suc j) q (r .c) ≤ℤ lagOf κ G f (2 ^ j) q (turn halve n r .c)
   halve-low n j r e x =
-      let be : ℤ = beta (pos κ) (pos G) (f .A) (f .B) (pos (2 ^ j)) (pos q) in
-      subst (λ (c : ℤ). lag-at (2 ^ suc j) (r .c) ≤ℤ lag-at (2 ^ j) c) (sym (halved-c n j r x))
+      let be : ℤ = betaOf κ G f (2 ^ j) q in
+      subst (λ (c : ℤ). lagOf κ G f (2 ^ suc j) q (r .c) ≤ℤ lagOf κ G f (2 ^ j) q c) (sym (halved-c n j r x))
       (halve-lag-low (pos κ) (pos (2 ^ n)) (pos (2 ^ j)) (f .A) (f .B) (f .C) (pos q) (r .c) (shrZ be (4 * 2 ^ n)) (pos G) (pos (2 ^ suc j)) (ap pos (e ∙ half-levels n j)) (two-steps j) (nat (2 ^ j)) (nat (2 ^ n)) (floor-low be (4 * 2 ^ n) (four-pos n)))
 
   halve-high : (n j : ℕ) (r : Registers) → G ≡ 2 ^ n * 2 ^ suc j → Exactly κ G f (2 ^ suc j) q r
-      → lag-at (2 ^ j) (turn halve n r .c) ≤ℤ (lag-at (2 ^ suc j) (r .c) +ℤ pos G *ℤ pos G)
+      → lagOf κ G f (2 ^ j) q (turn halve n r .c) ≤ℤ (lagOf κ G f (2 ^ suc j) q (r .c) +ℤ pos G *ℤ pos G)
   halve-high n j r e x =
-      let be : ℤ = beta (pos κ) (pos G) (f .A) (f .B) (pos (2 ^ j)) (pos q) in
-      subst (λ (c : ℤ). lag-at (2 ^ j) c ≤ℤ (lag-at (2 ^ suc j) (r .c) +ℤ pos G *ℤ pos G)) (sym (halved-c n j r x))
+      let be : ℤ = betaOf κ G f (2 ^ j) q in
+      subst (λ (c : ℤ). lagOf κ G f (2 ^ j) q c ≤ℤ (lagOf κ G f (2 ^ suc j) q (r .c) +ℤ pos G *ℤ pos G)) (sym (halved-c n j r x))
       (halve-lag-high (pos κ) (pos (2 ^ n)) (pos (2 ^ j)) (f .A) (f .B) (f .C) (pos q) (r .c) (shrZ be (4 * 2 ^ n)) (pos G) (pos (2 ^ suc j)) (ap pos (e ∙ half-levels n j)) (two-steps j) (nat (2 ^ j)) (nat (2 ^ n)) (floor-high be (4 * 2 ^ n) (four-pos n)))
 
   pub bracket : (n j : ℕ) (r : Registers) → G ≡ 2 ^ n * 2 ^ j → Exactly κ G f (2 ^ j) q r → Bracket κ G f n j q r
   bracket n zero r e x =
       record {
-        low = ≤ℤ-refl (lag-at 1 (r .c));
-        high = certified (ring 2 (λ E G. (E :+ (# 1 :- # 1) :* G :* G :- E, # 0)) tt (lag-at 1 (r .c)) (pos G)) (nat 0);
+        low = ≤ℤ-refl (lagOf κ G f 1 q (r .c));
+        high = certified (ring 2 (λ E G. (E :+ (# 1 :- # 1) :* G :* G :- E, # 0)) tt (lagOf κ G f 1 q (r .c)) (pos G)) (nat 0);
       }
   bracket n (suc j) r e x =
       let finer = bracket (suc n) j (turn halve n r) (e ∙ next-levels n j) (halve-exact κ G f n j q r x) in
       record {
         low = ≤ℤ-trans (halve-low n j r e x) (finer .low);
-        high = bracket-high (pos G) (pos (2 ^ j)) (pos (2 ^ suc j)) (lag-at 1 (refined (suc j) n r .c)) (lag-at (2 ^ suc j) (r .c)) (lag-at (2 ^ j) (turn halve n r .c)) (two-steps j) (less (pow-pos j)) (nat G) (halve-high n j r e x) (finer .high);
+        high = bracket-high (pos G) (pos (2 ^ j)) (pos (2 ^ suc j)) (lagOf κ G f 1 q (refined (suc j) n r .c)) (lagOf κ G f (2 ^ suc j) q (r .c)) (lagOf κ G f (2 ^ j) q (turn halve n r .c)) (two-steps j) (less (pow-pos j)) (nat G) (halve-high n j r e x) (finer .high);
       }

@@ -15,7 +15,7 @@ use Rattle.engine.specs.declared.Registers.{Registers}
 use Rattle.engine.specs.Curve.{Curve}
 use Rattle.engine.specs.Registers.{halve, double, step, turn, startRegisters, unit, _>>_}
 use Rattle.engine.proofs.Back.{halve-after-double}
-use Rattle.engine.proofs.Exact.{alpha, chord, place, lag, miss, drift, placeE, step-lag-low, step-lag-high, step-miss, step-low, step-high, drift-low, drift-high, start-low, start-high}
+use Rattle.engine.proofs.Exact.{alpha, drift, alphaOf, lagOf, missOf, placeE, step-lag-low, step-lag-high, step-miss, step-low, step-high, drift-low, drift-high, start-low, start-high}
 use Rattle.engine.proofs.Refined.{Exactly, halve-exact, double-exact, step-exact, refined, next-levels, Bracket, bracket}
 
 -- G = 2^F and κ·G = 65,536; the level is n, with j finer ones below it
@@ -26,11 +26,11 @@ pub record On (κ G : ℕ) (f : Curve) (n j q : ℕ) (r : Registers) : Type 0 wh
   pub within : q ≤ G
   pub exact : Exactly κ G f (2 ^ j) q r
   pub c-low : (pos 0 -ℤ (pos q +ℤ pos 1) *ℤ pos G *ℤ pos G)
-      ≤ℤ lag (pos G) (refined j n r .c) (chord (pos κ) (pos G) (f .A) (f .B) (f .C) (pos 1) (pos q))
-  pub c-high : lag (pos G) (refined j n r .c) (chord (pos κ) (pos G) (f .A) (f .B) (f .C) (pos 1) (pos q))
+      ≤ℤ lagOf κ G f 1 q (refined j n r .c)
+  pub c-high : lagOf κ G f 1 q (refined j n r .c)
       ≤ℤ ((pos q +ℤ pos G -ℤ pos 1) *ℤ pos G *ℤ pos G)
-  pub d-low : (pos 0 -ℤ drift (pos G) (pos q)) ≤ℤ miss (pos G) (r .d) (place (pos κ) (pos G) (f .A) (f .B) (f .C) (f .D) (pos q))
-  pub d-high : miss (pos G) (r .d) (place (pos κ) (pos G) (f .A) (f .B) (f .C) (f .D) (pos q)) ≤ℤ drift (pos G) (pos q)
+  pub d-low : (pos 0 -ℤ drift (pos G) (pos q)) ≤ℤ missOf κ G f q (r .d)
+  pub d-high : missOf κ G f q (r .d) ≤ℤ drift (pos G) (pos q)
 
 module _ (κ G : ℕ) (f : Curve) where
   -- ---- halve and double
@@ -75,11 +75,11 @@ module _ (κ G : ℕ) (f : Curve) where
       omega (arith, mul-le-mul-right (2 ^ j) l)
 
   module _ (n j q : ℕ) (r : Registers) (o : On κ G f n j q r) where
-    abbrev chord-at : ℕ → ℕ → ℤ
-    chord-at s q = chord (pos κ) (pos G) (f .A) (f .B) (f .C) (pos s) (pos q)
-
     abbrev lag-now : ℤ
-    lag-now = lag (pos G) (r .c) (chord-at (2 ^ j) q)
+    lag-now = lagOf κ G f (2 ^ j) q (r .c)
+
+    abbrev lag-next : ℤ
+    lag-next = lagOf κ G f (2 ^ j) (q + 2 ^ j) (turn step n r .c)
 
     now : Bracket κ G f n j q r
     now = bracket κ G f q n j r (o .levels) (o .exact)
@@ -90,20 +90,20 @@ module _ (κ G : ℕ) (f : Curve) where
     levels-are : pos G ≡ pos (2 ^ n) *ℤ pos (2 ^ j)
     levels-are = ap pos (o .levels)
 
-    falls : lag (pos G) (turn step n r .c) (chord-at (2 ^ j) (q + 2 ^ j)) ≤ℤ lag-now
+    falls : lag-next ≤ℤ lag-now
     unfolding turn
     falls =
         step-lag-high (pos κ) (pos (2 ^ n)) (pos (2 ^ j)) (f .A) (f .B) (f .C) (pos q) (r .c) (r .b >> n) (pos G) levels-are (nat (2 ^ j)) (nat G)
         (subst (λ (b : ℤ). (pos (2 ^ n) *ℤ (r .b >> n)) ≤ℤ b) (o .exact .b) (floor-low (r .b) (2 ^ n) (pow-pos n)))
 
-    falls-little : (lag-now -ℤ pos G *ℤ pos G) ≤ℤ lag (pos G) (turn step n r .c) (chord-at (2 ^ j) (q + 2 ^ j))
+    falls-little : (lag-now -ℤ pos G *ℤ pos G) ≤ℤ lag-next
     unfolding turn
     falls-little =
         step-lag-low (pos κ) (pos (2 ^ n)) (pos (2 ^ j)) (f .A) (f .B) (f .C) (pos q) (r .c) (r .b >> n) (pos G) levels-are (nat (2 ^ j)) (nat G)
         (subst (λ (b : ℤ). b ≤ℤ (pos (2 ^ n) *ℤ (r .b >> n) +ℤ pos (2 ^ n) -ℤ pos 1)) (o .exact .b) (floor-high (r .b) (2 ^ n) (pow-pos n)))
 
-    miss-next : miss (pos G) (turn step n r .d) (place (pos κ) (pos G) (f .A) (f .B) (f .C) (f .D) (pos (q + 2 ^ j)))
-        ≡ miss (pos G) (r .d) (place (pos κ) (pos G) (f .A) (f .B) (f .C) (f .D) (pos q)) +ℤ pos (2 ^ j) *ℤ lag-now -ℤ pos (2 ^ j) *ℤ pos G *ℤ pos G *ℤ (r .c -ℤ pos (2 ^ n) *ℤ (r .c >> n))
+    miss-next : missOf κ G f (q + 2 ^ j) (turn step n r .d)
+        ≡ missOf κ G f q (r .d) +ℤ pos (2 ^ j) *ℤ lag-now -ℤ pos (2 ^ j) *ℤ pos G *ℤ pos G *ℤ (r .c -ℤ pos (2 ^ n) *ℤ (r .c >> n))
     unfolding turn
     miss-next =
         step-miss (pos κ) (pos (2 ^ n)) (pos (2 ^ j)) (f .A) (f .B) (f .C) (f .D) (pos q) (r .c) (r .d) (r .c >> n) (pos G) levels-are
@@ -118,8 +118,14 @@ module _ (κ G : ℕ) (f : Curve) where
           exact = step-exact κ G f n (2 ^ j) q r (o .exact);
           c-low = step-low (pos q) (pos (2 ^ j)) (pos G) _ _ lag-now _ (after .low) falls-little (now .high) (o .c-low);
           c-high = step-high (pos q) (pos (2 ^ j)) (pos G) _ _ lag-now _ (nat G) (after .high) falls (now .low) (o .c-high);
-          d-low = rw miss-next (drift-low (pos (2 ^ n)) (pos (2 ^ j)) (pos q) (r .c) (r .c >> n) (pos G) _ lag-now _ levels-are (nat (2 ^ j)) (less (pow-pos j)) (nat q) (nat G) (o .d-low) (o .c-low) (now .high) (floor-high (r .c) (2 ^ n) (pow-pos n)));
-          d-high = rw miss-next (drift-high (pos (2 ^ n)) (pos (2 ^ j)) (pos q) (r .c) (r .c >> n) (pos G) _ lag-now _ (nat (2 ^ j)) (nat q) (nat G) (o .d-high) (o .c-high) (now .low) (floor-low (r .c) (2 ^ n) (pow-pos n)));
+          d-low =
+              rw miss-next
+              (drift-low (pos (2 ^ n)) (pos (2 ^ j)) (pos q) (r .c) (r .c >> n) (pos G) _ lag-now _ levels-are (nat (2 ^ j)) (less (pow-pos j)) (nat q) (nat G)
+              (o .d-low) (o .c-low) (now .high) (floor-high (r .c) (2 ^ n) (pow-pos n)));
+          d-high =
+              rw miss-next
+              (drift-high (pos (2 ^ n)) (pos (2 ^ j)) (pos q) (r .c) (r .c >> n) (pos G) _ lag-now _ (nat (2 ^ j)) (nat q) (nat G)
+              (o .d-high) (o .c-high) (now .low) (floor-low (r .c) (2 ^ n) (pow-pos n)));
         }
 
   -- ---- the start
@@ -132,12 +138,12 @@ module _ (κ G : ℕ) (f : Curve) where
     unit-is = ap pos scale
 
     -- a is whole
-    pub start-whole : (unit *ℤ (pos 6 *ℤ f .A)) >> n ≡ alpha (pos κ) (f .A) (pos (2 ^ j))
+    pub start-whole : (unit *ℤ (pos 6 *ℤ f .A)) >> n ≡ alphaOf κ f (2 ^ j)
     start-whole =
         ap (λ (z : ℤ). z >> n)
         (ap (λ (u : ℤ). u *ℤ (pos 6 *ℤ f .A)) (unit-is ∙ ap (λ (g : ℕ). pos κ *ℤ pos g) e)
         ∙ sym (start-alpha (pos κ) (f .A) (pos (2 ^ j)) (pos (2 ^ n))))
-        ∙ floor-multiple (alpha (pos κ) (f .A) (pos (2 ^ j))) (2 ^ n) (pow-pos n)
+        ∙ floor-multiple (alphaOf κ f (2 ^ j)) (2 ^ n) (pow-pos n)
 
     start-exact : Exactly κ G f (2 ^ j) 0 (startRegisters n f)
     unfolding startRegisters
@@ -164,10 +170,10 @@ module _ (κ G : ℕ) (f : Curve) where
     at-zero : (G' : ℤ) → drift G' (pos 0) ≡ pos 0
     at-zero = ring 1 (λ G. ((# 0 :* # 0 :+ # 0 :* G :- # 0) :* G :* G, # 0)) tt
 
-    start-miss : miss (pos G) (startRegisters n f .d) (place (pos κ) (pos G) (f .A) (f .B) (f .C) (f .D) (pos 0)) ≡ pos 0
+    start-miss : missOf κ G f 0 (startRegisters n f .d) ≡ pos 0
     unfolding startRegisters
     start-miss =
-        ap (λ (u : ℤ). miss (pos G) (u *ℤ f .D) (place (pos κ) (pos G) (f .A) (f .B) (f .C) (f .D) (pos 0))) unit-is
+        ap (λ (u : ℤ). missOf κ G f 0 (u *ℤ f .D)) unit-is
         ∙ ring 6 (λ κ G A B C D. (κ :* G :* D :* G :* G :* G :- placeE κ G A B C D (# 0), # 0)) tt (pos κ) (pos G) (f .A) (f .B) (f .C) (f .D)
 
     pub start-on : On κ G f n j 0 (startRegisters n f)
@@ -182,8 +188,12 @@ module _ (κ G : ℕ) (f : Curve) where
           whole = sym (zero-mul (2 ^ j));
           within = zero≤;
           exact = start-exact;
-          c-low = start-low (pos κ) (pos (2 ^ n)) (pos (2 ^ j)) (f .A) (f .B) (f .C) (startRegisters n f .c) _ (pos G) (ap pos e) (nat (2 ^ j)) high (start-bracket .low);
-          c-high = start-high (pos κ) (pos (2 ^ n)) (pos (2 ^ j)) (f .A) (f .B) (f .C) (startRegisters n f .c) _ (pos G) (ap pos e) (nat (2 ^ j)) (less (pow-pos n)) (nat G) low (start-bracket .high);
+          c-low =
+              start-low (pos κ) (pos (2 ^ n)) (pos (2 ^ j)) (f .A) (f .B) (f .C) (startRegisters n f .c) _ (pos G) (ap pos e) (nat (2 ^ j)) high
+              (start-bracket .low);
+          c-high =
+              start-high (pos κ) (pos (2 ^ n)) (pos (2 ^ j)) (f .A) (f .B) (f .C) (startRegisters n f .c) _ (pos G) (ap pos e) (nat (2 ^ j)) (less (pow-pos n)) (nat G)
+              low (start-bracket .high);
           d-low = rw (start-miss, at-zero) (≤ℤ-refl (pos 0));
           d-high = rw (start-miss, at-zero) (≤ℤ-refl (pos 0));
         }

@@ -251,6 +251,3 @@ equal-all (suc n) s k h = λ x. equal-all n s (λ ρ. k (x ∷ ρ)) (λ ρ e. h 
 
 pub ring : (n : ℕ) (f : Sides n) → Same n (sides n f 0) → Equal n (sides n f 0) (λ ρ. ρ)
 ring n f t = equal-all n (sides n f 0) (λ ρ. ρ) (λ ρ e. subst (λ (m : ℕ). Same m (sides n f 0)) (sym e) t)
-
-binomial : (x y : ℤ) → (x +ℤ y) *ℤ (x +ℤ y) ≡ x *ℤ x +ℤ pos 2 *ℤ x *ℤ y +ℤ y *ℤ y
-binomial = ring 2 (λ x y. ((x :+ y) :* (x :+ y), x :* x :+ # 2 :* x :* y :+ y :* y)) tt

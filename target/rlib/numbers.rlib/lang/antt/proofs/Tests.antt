@@ -1,23 +1,12 @@
--- Tests, that is values of Bool: a case for each value, what a test of several parts says, and the tests of ℤ.
-use mathlib.Core.Path.{_≡_, refl, sym, subst, _∙_}
-use mathlib.Core.Bool.{Bool, true, false, _&&_, _||_, false≢true, true≢false}
+-- Tests, that is values of Bool: what a test of several parts says, and the tests of ℤ.
+use mathlib.Core.Path.{_≡_, refl, sym, _∙_}
+use mathlib.Core.Bool.{Bool, true, false, _&&_, false≢true, true≢false}
 use Prim.Native.Nat.{ℕ, suc, _<_}
 use native.Mathlib.Nat.{not-suc-le-zero, zero-add}
 use lib.Dec.{T, leb, leb·suc-suc}
 use lib.IntN.{ℤ, pos, negsuc, natAbs, _-ℤ_}
 use lib.Signed.{leZ, ltZ, nonNeg}
 use borrow.Author.Tests.{ltb-true}
-
-pub by-test {ℓ} : {X : Type ℓ} (b : Bool) → (b ≡ true → X) → (b ≡ false → X) → X
-by-test true f g = f refl
-by-test false f g = g refl
-
-pub so : {b : Bool} → b ≡ true → T b
-so e = subst T (sym e) tt
-
-pub is-so : {b : Bool} → T b → b ≡ true
-is-so {b = true} t = refl
-is-so {b = false} t = absurd t
 
 pub and-true : (a b : Bool) → (a && b) ≡ true → (a ≡ true) × (b ≡ true)
 and-true true b e = (refl, e)
@@ -34,13 +23,6 @@ and-four a b c d e =
     let three = and-true (a && b && c) d e in
     let two = and-three a b c (three .0) in
     (two .0, two .1, two .2, three .1)
-
-pub true-and : {a b : Bool} → a ≡ true → b ≡ true → (a && b) ≡ true
-true-and e f = λ i. e i && f i
-
-pub or-false : (a b : Bool) → (a || b) ≡ false → (a ≡ false) × (b ≡ false)
-or-false true b e = absurd (true≢false e)
-or-false false b e = (refl, e)
 
 -- from −m to m, as two comparisons
 pub within : (m : ℕ) (z : ℤ) → (leZ (negsuc m) z && leZ z (pos (suc m))) ≡ leb (natAbs z) (suc m)
