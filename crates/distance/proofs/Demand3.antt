@@ -17,7 +17,7 @@ use Rattle.engine.specs.Registers.{Operation, halve, double}
 use Rattle.engine.specs.Drawing.{areRegisters, turned, called}
 use Rattle.engine.specs.Start.{startRefusal, firstDrawing, started}
 use Rattle.engine.specs.Choice.{chosen}
-use Rattle.engine.proofs.Gates.{accepted, start-begins}
+use Rattle.engine.proofs.Accepted.{accepted, start-begins}
 use Rattle.distance.specs.Calls.{after, travelled, ruled, settled}
 use Rattle.distance.specs.Demand3.{Stands, Goes, Demand3}
 use Rattle.distance.proofs.Near.{At, near}

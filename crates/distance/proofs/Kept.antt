@@ -20,7 +20,7 @@ use Rattle.engine.specs.Curve.{Curve, curve}
 use Rattle.engine.specs.Registers.{Operation, halve, double, step, turn}
 use Rattle.engine.specs.Drawing.{stride, isDrawing, isAligned, ownRefusal, gated, callRefusal, turned, isRegister, areRegisters, refused, landed, answered, called}
 use Rattle.engine.proofs.Begin.{extent, reaches}
-use Rattle.engine.proofs.Gates.{Lawful}
+use Rattle.engine.proofs.Accepted.{Lawful}
 use Rattle.engine.proofs.Stays.{multiple}
 use Rattle.engine.proofs.Turns.{halve-on, double-on, step-on}
 use Rattle.distance.specs.Calls.{ruled, settled}

@@ -1,22 +1,17 @@
 -- What it says of level and q that a call is not refused, and the strides as the code shifts them.
 use mathlib.Core.Path.{_≡_, refl, sym, ap, _∙_}
-use mathlib.Core.Bool.{Bool, true, false, _&&_}
-use mathlib.Core.Option.{none}
-use Prim.Native.Nat.{ℕ, zero, suc, _+_, _-_, _*_, _/_, _%_, _^_, _≤_, _<_}
+use mathlib.Core.Bool.{Bool, true, false}
+use Prim.Native.Nat.{ℕ, _+_, _-_, _*_, _/_, _%_, _^_, _≤_, _<_}
 use native.Mathlib.Nat.{mul-div-cancel}
 use native.Mathlib.Omega.{arith}
 use lib.Dec.{leb, ltb, eqb}
 use lib.Pow.{pow-add, pow-pos}
 use borrow.Author.Tests.{leb-true, ltb-true, eqb-true}
-use Rattle.numbers.proofs.Tests.{and-true, and-three}
-use Rattle.rules.specs.Rules.{unless, areLimits, isLevel}
+use Rattle.numbers.proofs.Tests.{and-three}
+use Rattle.rules.specs.Rules.{unless}
 use Rattle.rules.proofs.Laws.{rule-kept}
-use Rattle.engine.specs.declared.Drawing.{Drawing}
-use Rattle.engine.specs.declared.Control.{Control}
-use Rattle.engine.specs.Registers.{Operation, double}
-use Rattle.engine.specs.Drawing.{stride, isDrawing, isAligned, ownRefusal, gated, callRefusal, turned, refused, landed, answered, called}
-use Rattle.engine.specs.Choice.{chosen, replied, choiceRefusal, choice}
-use Rattle.engine.specs.Start.{areCoordinates, areNear, startRefusal, nothingDrawn, begun, firstDrawing, started}
+use Rattle.engine.specs.Registers.{double}
+use Rattle.engine.specs.Drawing.{stride, isDrawing, isAligned, ownRefusal, gated, callRefusal}
 
 -- ---- level and q
 
@@ -95,77 +90,3 @@ double-whole F n q e =
     let own = opens F n q (ownRefusal F double n q) e .1 in
     let above = ltb-true 0 n (rule-kept (ltb 0 n) 6 (unless (isAligned F n q) 8 0) own .0) in
     omega arith
-
--- ---- the two ways of an answer
-
-pub call-refused : (F : ℕ) (op : Operation) (d : Drawing) {k : ℕ} → k ≡ callRefusal F op (d .level) (d .q) → (k ≡ 0 → ⊥)
-    → refused k d ≡ called F op d
-unfolding called
-call-refused F op d {k} e h = shut k h ∙ ap (λ (j : ℕ). answered j d (turned F op d)) e
-  where
-    shut : (k : ℕ) → (k ≡ 0 → ⊥) → refused k d ≡ answered k d (turned F op d)
-    shut zero h = absurd (h refl)
-    shut (suc k) h = refl
-
-pub call-landed : (F : ℕ) (op : Operation) (d : Drawing) → callRefusal F op (d .level) (d .q) ≡ 0
-    → called F op d ≡ landed d (turned F op d)
-unfolding called
-call-landed F op d e = ap (λ (j : ℕ). answered j d (turned F op d)) e
-
-pub call-opens : (F : ℕ) (op : Operation) (n q : ℕ) → callRefusal F op n q ≡ 0 → Open F n q × (ownRefusal F op n q ≡ 0)
-unfolding callRefusal
-call-opens F op n q e = opens F n q (ownRefusal F op n q) e
-
-pub choice-refused : (F upper lower : ℕ) (d : Drawing) {k : ℕ} → k ≡ choiceRefusal F upper lower (d .level) (d .q) → (k ≡ 0 → ⊥)
-    → record { refusal = k; operation = none } ≡ choice F upper lower d
-unfolding choice
-choice-refused F upper lower d {k} e h = shut k h ∙ ap (λ (j : ℕ). replied j (chosen F upper lower d)) e
-  where
-    shut : (k : ℕ) → (k ≡ 0 → ⊥) → record { refusal = k; operation = none } ≡ replied k (chosen F upper lower d)
-    shut zero h = absurd (h refl)
-    shut (suc k) h = refl
-
-pub choice-opens : (F upper lower n q : ℕ) → choiceRefusal F upper lower n q ≡ 0 → (areLimits upper lower ≡ true) × Open F n q
-unfolding choiceRefusal
-choice-opens F upper lower n q e =
-    let f = rule-kept (areLimits upper lower) 3 (gated F n q 0) e in
-    (f .0, opens F n q 0 (f .1) .0)
-
--- ---- a start that is not refused
-
-pub record Lawful (p : Control) : Type 0 where
-  pub coordinates : areCoordinates p ≡ true
-  pub near : areNear p ≡ true
-
-pub record Accepted (F : ℕ) (p q : Control) (n : ℕ) : Type 0 where
-  pub x : Lawful p
-  pub y : Lawful q
-  pub level : n ≤ F
-
-pub accepted : (F : ℕ) (x y : Control) (n : ℕ) → startRefusal F x y n ≡ 0 → Accepted F x y n
-unfolding startRefusal isLevel
-accepted F x y n e =
-    let f = rule-kept (areCoordinates x && areCoordinates y) 0 _ e in
-    let g = rule-kept (areNear x && areNear y) 1 _ (f .1) in
-    let h = rule-kept (isLevel F n) 2 0 (g .1) in
-    let inside = and-true (areCoordinates x) (areCoordinates y) (f .0) in
-    let close = and-true (areNear x) (areNear y) (g .0) in
-    record {
-      x = record { coordinates = inside .0; near = close .0 };
-      y = record { coordinates = inside .1; near = close .1 };
-      level = leb-true n F (h .0);
-    }
-
-pub start-refused : (F : ℕ) (x y : Control) (n : ℕ) {k : ℕ} → k ≡ startRefusal F x y n → (k ≡ 0 → ⊥)
-    → record { refusal = k; drawing = nothingDrawn } ≡ started F x y n
-unfolding started
-start-refused F x y n {k} e h = shut k h ∙ ap (λ (j : ℕ). begun j (firstDrawing x y n)) e
-  where
-    shut : (k : ℕ) → (k ≡ 0 → ⊥) → record { refusal = k; drawing = nothingDrawn } ≡ begun k (firstDrawing x y n)
-    shut zero h = absurd (h refl)
-    shut (suc k) h = refl
-
-pub start-begins : (F : ℕ) (x y : Control) (n : ℕ) → startRefusal F x y n ≡ 0
-    → started F x y n ≡ record { refusal = 0; drawing = firstDrawing x y n }
-unfolding started
-start-begins F x y n e = ap (λ (j : ℕ). begun j (firstDrawing x y n)) e

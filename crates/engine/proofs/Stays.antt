@@ -12,7 +12,8 @@ use Rattle.rules.specs.Rules.{unless}
 use Rattle.rules.proofs.Laws.{rule-kept}
 use Rattle.engine.specs.Registers.{Operation, halve, double, step}
 use Rattle.engine.specs.Drawing.{stride, isDrawing, isAligned, callRefusal, newLevel, newPosition}
-use Rattle.engine.proofs.Gates.{Open, call-opens}
+use Rattle.engine.proofs.Gates.{Open}
+use Rattle.engine.proofs.Answers.{call-opens}
 
 -- ---- multiples
 

@@ -39,7 +39,7 @@ unfolding areNeighbours
 neighbours-size p p' e = record { le = leb-true _ reach e }
 
 pub record Limits (upper lower : ℕ) : Type 0 where
-  pub some : 1 ≤ upper
+  pub least : 1 ≤ upper
   pub most : upper ≤ 65536
   pub order : lower ≤ upper
 
@@ -47,4 +47,4 @@ pub limits-hold : (upper lower : ℕ) → areLimits upper lower ≡ true → Lim
 unfolding areLimits
 limits-hold upper lower e =
     let t = and-three (leb 1 upper) (leb upper 65536) (leb lower upper) e in
-    record { some = leb-true 1 upper (t .0); most = leb-true upper 65536 (t .1); order = leb-true lower upper (t .2) }
+    record { least = leb-true 1 upper (t .0); most = leb-true upper 65536 (t .1); order = leb-true lower upper (t .2) }

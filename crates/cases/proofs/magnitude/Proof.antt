@@ -1,3 +1,4 @@
+-- Below 0 the number is negated in 64 bits, from 0 on it stands.
 use mathlib.Core.Path.{_≡_, ap, _∙_, subst}
 use mathlib.Core.Bool.{true, false}
 use lib.IntN.{ℤ, pos, natAbs, _-ℤ_}

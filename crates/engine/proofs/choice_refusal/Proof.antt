@@ -1,3 +1,4 @@
+-- The limits first, then the gate.
 use mathlib.Core.Path.{sym, _∙_}
 use borrow.Author.Needs.{needs}
 use borrow.Author.Tests.{not-true, not-false}

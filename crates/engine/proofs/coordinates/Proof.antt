@@ -1,3 +1,4 @@
+-- Four calls of the rule, of the four points as they are read back.
 use mathlib.Core.Path.{ap, _∙_}
 use mathlib.Core.Bool.{_&&_}
 use mir.Facts.{toZ-ofZ}

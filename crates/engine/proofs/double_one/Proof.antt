@@ -1,3 +1,4 @@
+-- Each new register is the one of `turn double`, and fits 64 bits.
 use Prim.Native.Nat.{ℕ, _+_}
 use lib.IntN.{pos, _+ℤ_, _*ℤ_}
 use mir.Syntax.{w64}

@@ -1,3 +1,4 @@
+-- The gate first, then 7, then 8.
 use mathlib.Core.Path.{_≡_, sym, _∙_}
 use mathlib.Core.Bool.{true}
 use native.Mathlib.Omega.{arith}

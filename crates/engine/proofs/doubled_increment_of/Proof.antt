@@ -1,3 +1,4 @@
+-- The doubled c, shifted by one level less, in magnitude.
 use mathlib.Core.Path.{ap, _∙_}
 use Prim.Native.Nat.{_-_}
 use native.Mathlib.Omega.{arith}

@@ -1,3 +1,4 @@
+-- The comparisons are those of `areRegisters`.
 use borrow.Author.Needs.{needs}
 use Rattle.engine.specs.Drawing.{areRegisters}
 use Rattle.engine.proofs.fit.Statement.{statement}

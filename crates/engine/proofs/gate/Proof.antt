@@ -1,3 +1,4 @@
+-- Each return rewrites the table `gated` with the tests that led there.
 use mathlib.Core.Path.{sym, _∙_}
 use borrow.Author.Needs.{needs}
 use borrow.Author.Tests.{le-ltb, lt-ltb, leb-true, leb-false, not-true, not-false}

@@ -1,3 +1,4 @@
+-- Each new register is the one of `turn halve`, and fits 64 bits.
 use Prim.Native.Nat.{ℕ, _+_}
 use lib.IntN.{_-ℤ_}
 use mir.Syntax.{w64}

@@ -1,3 +1,4 @@
+-- The shifted c, in magnitude.
 use mathlib.Core.Path.{ap, _∙_}
 use native.Mathlib.Omega.{arith}
 use lib.IntN.{natAbs}

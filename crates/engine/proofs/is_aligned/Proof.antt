@@ -1,3 +1,4 @@
+-- TWO_ENDS shifted by the level is two strides.
 use Prim.Native.Nat.{_-_}
 use native.Mathlib.Omega.{arith}
 use lib.Pow.{pow-pos}

@@ -1,3 +1,4 @@
+-- The tests are those of `isDrawing`; END shifted by the level is the stride.
 use Prim.Native.Nat.{_-_}
 use lib.Pow.{pow-pos}
 use borrow.Author.Needs.{needs}

@@ -1,3 +1,4 @@
+-- The two calls of `fit` are the test of `landed`.
 use mathlib.Core.Path.{_≡_, sym, _∙_}
 use mathlib.Core.Bool.{true, _&&_}
 use borrow.Author.Needs.{needs}

@@ -1,3 +1,4 @@
+-- A cast to 32 bits keeps each number, since it fits.
 use mir.Facts.{toZ-ofZ}
 use Rattle.numbers.proofs.Machine.{reads-back, widens, narrows}
 use Rattle.engine.proofs.Fitting.{registers-fit}

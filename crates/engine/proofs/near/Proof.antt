@@ -1,3 +1,4 @@
+-- Three calls of the rule, of the four points as they are read back.
 use mathlib.Core.Path.{ap₂, _∙_}
 use mathlib.Core.Bool.{_&&_}
 use mir.Facts.{toZ-ofZ}

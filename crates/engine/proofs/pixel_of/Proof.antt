@@ -1,3 +1,4 @@
+-- The rounded d is at most 32,769 in size, so it fits 32 bits again.
 use lib.IntN.{pos, _+ℤ_}
 use mir.Syntax.{w32, w64}
 use borrow.Author.Needs.{needs}

@@ -1,3 +1,4 @@
+-- Each return rewrites the table `startRefusal` with the tests that led there.
 use mathlib.Core.Path.{_≡_, sym, _∙_}
 use mathlib.Core.Bool.{_&&_, true, false}
 use borrow.Author.Needs.{needs}

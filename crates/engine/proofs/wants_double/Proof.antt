@@ -1,3 +1,4 @@
+-- At level 0 there is nothing to double; above it the increments and the position are those of `wantsDouble`.
 use native.Mathlib.Omega.{arith}
 use borrow.Author.Needs.{needs}
 use borrow.Author.Tests.{lt-ltb}

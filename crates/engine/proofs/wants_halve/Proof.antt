@@ -1,3 +1,4 @@
+-- The increments are those of `wantsHalve`.
 use borrow.Author.Needs.{needs}
 use Rattle.engine.specs.Choice.{wantsHalve}
 use Rattle.engine.proofs.wants_halve.Statement.{statement}

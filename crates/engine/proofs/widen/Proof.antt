@@ -1,3 +1,4 @@
+-- A cast to 64 bits keeps each number.
 use mir.Facts.{toZ-ofZ}
 use Rattle.numbers.proofs.Machine.{signed, reads-back, widens}
 use Rattle.engine.proofs.Fitting.{told}

@@ -1,3 +1,4 @@
+-- The two comparisons are those of `isCoordinate`, once the parameter is read back.
 use mathlib.Core.Path.{ap}
 use mir.Facts.{toZ-ofZ}
 use Rattle.rules.specs.Rules.{isCoordinate}

@@ -1,3 +1,4 @@
+-- The comparison is that of `isLevel`.
 use mathlib.Core.Path.{refl}
 use Rattle.rules.specs.Rules.{isLevel}
 use Rattle.rules.proofs.level.Statement.{statement}

@@ -1,3 +1,4 @@
+-- The comparisons are those of `areLimits`.
 use mathlib.Core.Path.{refl}
 use Rattle.rules.specs.Rules.{areLimits}
 use Rattle.rules.proofs.limits.Statement.{statement}

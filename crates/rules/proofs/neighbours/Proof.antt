@@ -1,3 +1,4 @@
+-- The difference fits 64 bits, and its two comparisons are one of its magnitude.
 use mathlib.Core.Path.{ap, _∙_}
 use mathlib.Core.Bool.{_&&_}
 use lib.IntN.{ℤ, pos, negsuc, _-ℤ_}

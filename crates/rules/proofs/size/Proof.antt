@@ -1,3 +1,4 @@
+-- Each return rewrites the tests of `isSize` with what its branch found.
 use borrow.Author.Needs.{needs}
 use borrow.Author.Tests.{lt-leb, le-leb}
 use Rattle.rules.specs.Rules.{isSize}

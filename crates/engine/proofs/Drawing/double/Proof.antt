@@ -1,3 +1,4 @@
+-- A refusal hands the drawing back; otherwise both coordinates are doubled and land.
 use mathlib.Core.Path.{_≡_, sym, _∙_}
 use Prim.Native.Nat.{_-_, _≤_}
 use borrow.Author.Needs.{needs}
@@ -5,7 +6,7 @@ use borrow.Author.Tests.{ltb-true}
 use Rattle.rules.proofs.Laws.{rule-kept}
 use Rattle.engine.specs.Registers.{double}
 use Rattle.engine.specs.Drawing.{callRefusal, turned, landed}
-use Rattle.engine.proofs.Gates.{call-opens, call-refused, call-landed}
+use Rattle.engine.proofs.Answers.{call-opens, call-refused, call-landed}
 use Rattle.engine.proofs.Drawing.double.Statement.{statement}
 use Rattle.engine.proofs.Drawing.double.Tie as tie
 

@@ -1,10 +1,11 @@
+-- A refusal hands the drawing back; otherwise both coordinates are halved and land.
 use mathlib.Core.Path.{_≡_, sym, _∙_}
 use Prim.Native.Nat.{_+_, _≤_}
 use native.Mathlib.Omega.{arith}
 use borrow.Author.Needs.{needs}
 use Rattle.engine.specs.Registers.{halve}
 use Rattle.engine.specs.Drawing.{callRefusal, turned, landed}
-use Rattle.engine.proofs.Gates.{call-opens, call-refused, call-landed}
+use Rattle.engine.proofs.Answers.{call-opens, call-refused, call-landed}
 use Rattle.engine.proofs.Drawing.halve.Statement.{statement}
 use Rattle.engine.proofs.Drawing.halve.Tie as tie
 

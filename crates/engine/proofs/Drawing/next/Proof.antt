@@ -1,8 +1,9 @@
+-- A refusal names no operation; otherwise the two tests choose as `chosen` does.
 use mathlib.Core.Path.{_≡_, sym, _∙_}
 use Prim.Native.Nat.{_≤_}
 use borrow.Author.Needs.{needs}
 use Rattle.engine.specs.Choice.{choiceRefusal, choice, chosen}
-use Rattle.engine.proofs.Gates.{choice-refused, choice-opens}
+use Rattle.engine.proofs.Answers.{choice-refused, choice-opens}
 use Rattle.engine.proofs.Drawing.next.Statement.{statement}
 use Rattle.engine.proofs.Drawing.next.Tie as tie
 

@@ -1,3 +1,4 @@
+-- The two pixels are those of `point`.
 use mathlib.Core.Path.{_∙_}
 use mir.Syntax.{w32}
 use mir.Facts.{toZ-ofZ}

@@ -1,7 +1,8 @@
+-- A refusal gives zeros; otherwise the points are lawful, and the two coordinates begin as `startRegisters` says.
 use mathlib.Core.Path.{_≡_, sym, _∙_}
 use borrow.Author.Needs.{needs}
 use Rattle.engine.specs.Start.{startRefusal}
-use Rattle.engine.proofs.Gates.{Accepted, accepted, start-refused, start-begins}
+use Rattle.engine.proofs.Accepted.{Accepted, accepted, start-refused, start-begins}
 use Rattle.engine.proofs.Drawing.start.Statement.{statement}
 use Rattle.engine.proofs.Drawing.start.Tie as tie
 

@@ -1,3 +1,4 @@
+-- A refusal hands the drawing back; otherwise both coordinates are stepped and land, one stride on.
 use mathlib.Core.Path.{_≡_, sym, _∙_}
 use Prim.Native.Nat.{_+_, _≤_}
 use native.Mathlib.Omega.{arith}
@@ -5,7 +6,8 @@ use borrow.Author.Needs.{needs}
 use lib.Pow.{shr-le}
 use Rattle.engine.specs.Registers.{step}
 use Rattle.engine.specs.Drawing.{callRefusal, turned, landed}
-use Rattle.engine.proofs.Gates.{call-opens, call-refused, call-landed, stride-is}
+use Rattle.engine.proofs.Answers.{call-opens, call-refused, call-landed}
+use Rattle.engine.proofs.Gates.{stride-is}
 use Rattle.engine.proofs.Drawing.step.Statement.{statement}
 use Rattle.engine.proofs.Drawing.step.Tie as tie
 

@@ -5,7 +5,7 @@ use native.Mathlib.Nat.{div-add-mod, mod-lt, mul-pos}
 use native.Mathlib.Omega.{arith}
 use lib.IntN.{ℤ, pos, negsuc, _+ℤ_, _-ℤ_, _*ℤ_}
 use lib.Signed.{shrZ, _≤ℤ_, ≤ℤ-refl}
-use Rattle.numbers.proofs.Parts.{up, down, same, add-parts, mul-parts}
+use Rattle.numbers.proofs.Parts.{up, down, add-parts, mul-parts}
 use Rattle.numbers.proofs.Ring.{#, _:+_, _:-_, _:*_, ring}
 use Rattle.numbers.proofs.Order.{le-parts, parts-le, ≤ℤ-antisym, pos-le, nat, less, _⊕_, _⊗_, gap, certified}
 
@@ -41,8 +41,7 @@ floor-mono m y y' z p h k =
 
 pub floor-is : (z y : ℤ) (m : ℕ) → 0 < m → (pos m *ℤ y) ≤ℤ z → z ≤ℤ (pos m *ℤ y +ℤ pos m -ℤ pos 1) → shrZ z m ≡ y
 floor-is z y m p h k =
-    same (shrZ z m) y
-    (≤ℤ-antisym (floor-mono m (shrZ z m) y z p (floor-low z m p) k) (floor-mono m y (shrZ z m) z p h (floor-high z m p)))
+    ≤ℤ-antisym (floor-mono m (shrZ z m) y z p (floor-low z m p) k) (floor-mono m y (shrZ z m) z p h (floor-high z m p))
 
 -- a multiple of m comes out of the floor
 pub floor-plus : (y z : ℤ) (m : ℕ) → 0 < m → shrZ (pos m *ℤ y +ℤ z) m ≡ y +ℤ shrZ z m

@@ -6,7 +6,7 @@ use native.Mathlib.Omega.{arith}
 use lib.Dec.{leb→le, le→leb}
 use lib.IntN.{ℤ, pos, negsuc, negℤ, _+ℤ_, _-ℤ_, _*ℤ_}
 use lib.Signed.{_≤ℤ_}
-use Rattle.numbers.proofs.Parts.{up, down, add-parts, neg-parts}
+use Rattle.numbers.proofs.Parts.{up, down, same, add-parts, neg-parts}
 
 -- ---- the order in the parts, for `omega`
 
@@ -25,8 +25,8 @@ parts-le (negsuc a) (negsuc b) h = record { le = le→leb b a (omega arith) }
 pub ≤ℤ-trans : {x y z : ℤ} → x ≤ℤ y → y ≤ℤ z → x ≤ℤ z
 ≤ℤ-trans {x} {y} {z} h k = parts-le x z (omega (arith, le-parts h, le-parts k))
 
-pub ≤ℤ-antisym : {x y : ℤ} → x ≤ℤ y → y ≤ℤ x → up x + down y ≡ up y + down x
-≤ℤ-antisym {x} {y} h k = omega (arith, le-parts h, le-parts k)
+pub ≤ℤ-antisym : {x y : ℤ} → x ≤ℤ y → y ≤ℤ x → x ≡ y
+≤ℤ-antisym {x} {y} h k = same x y (omega (arith, le-parts h, le-parts k))
 
 pub pos-le : {m n : ℕ} → m ≤ n → pos m ≤ℤ pos n
 pos-le {m} {n} h = record { le = le→leb m n h }
