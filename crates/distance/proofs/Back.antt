@@ -21,7 +21,7 @@ use Rattle.engine.proofs.Stays.{two-finer}
 use Rattle.engine.proofs.Back.{halve-after-double, double-after-halve}
 use Rattle.distance.specs.Calls.{ruled, settled}
 use Rattle.distance.proofs.Near.{At}
-use Rattle.distance.proofs.Kept.{Kept, Bounded, stride-below, allowed, kept-turned, call-settled}
+use Rattle.distance.proofs.Kept.{Kept, Bounded, stride-below, allowed, less-one, kept-turned, call-settled}
 
 -- ---- one coordinate
 
@@ -34,10 +34,7 @@ double-halved F f n (suc j) q r e h o =
 
 halve-doubled : (n : ℕ) (r : Registers) → 0 < n → turn halve (n - 1) (turn double n r) ≡ r
 halve-doubled zero r h = let no : ⊥ = omega arith in absurd no
-halve-doubled (suc n) r h = ap (λ (m : ℕ). turn halve m (turn double (suc n) r)) (less n) ∙ halve-after-double n r
-  where
-    less : (n : ℕ) → suc n - 1 ≡ n
-    less n = omega arith
+halve-doubled (suc n) r h = ap (λ (m : ℕ). turn halve m (turn double (suc n) r)) (less-one n) ∙ halve-after-double n r
 
 -- ---- level and q of the second call
 

@@ -26,7 +26,7 @@ chosen-ruled F upper lower d h =
     λ i. unless (end i) 5 (unless (above i) 7 (unless (c .aligned i) 8 0)))
     (λ e f i. unless (end i) 5 0)
 
-module _ (F : ℕ) (x y : Curve) (fx : Bounded F x) (fy : Bounded F y) (d : Drawing) (k : Kept F x y d) (upper lower : ℕ) where
+module _ (F : ℕ) (x y : Curve) (d : Drawing) (k : Kept F x y d) (upper lower : ℕ) where
   pub choice-answers : areLimits upper lower ≡ true → d .q < 2 ^ F → choice F upper lower d ≡ says (chosen F upper lower d)
   unfolding choice choiceRefusal gated
   choice-answers l h =
@@ -34,7 +34,7 @@ module _ (F : ℕ) (x y : Curve) (fx : Bounded F x) (fy : Bounded F y) (d : Draw
       let end = lt-ltb (d .q) (2 ^ F) h in
       λ i. replied (unless (l i) 4 (unless (inside i) 10 (unless (end i) 5 0))) (chosen F upper lower d)
 
-  pub chosen-accepted : d .q < 2 ^ F → called F (chosen F upper lower d) d ≡ record { refusal = 0; drawing = turned F (chosen F upper lower d) d }
-  chosen-accepted h =
+  pub chosen-accepted : Bounded F x → Bounded F y → d .q < 2 ^ F → called F (chosen F upper lower d) d ≡ record { refusal = 0; drawing = turned F (chosen F upper lower d) d }
+  chosen-accepted fx fy h =
       let op = chosen F upper lower d in
       call-settled F x y fx fy d op k ∙ ap (λ (m : ℕ). settled m d (turned F op d)) (chosen-ruled F upper lower d h)

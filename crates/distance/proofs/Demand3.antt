@@ -84,8 +84,8 @@ module _ (x y : Control) (d : Drawing) (along : ℕ) (r : Reached 11 x y d along
   next-goes upper lower l h =
       record {
         operation = chosen 11 upper lower d;
-        named = choice-answers 11 (curve x) (curve y) (r .x-bounded) (r .y-bounded) d (r .kept) upper lower l h;
-        accepted = ap (λ (m : Moved). m .refusal) (chosen-accepted 11 (curve x) (curve y) (r .x-bounded) (r .y-bounded) d (r .kept) upper lower h);
+        named = choice-answers 11 (curve x) (curve y) d (r .kept) upper lower l h;
+        accepted = ap (λ (m : Moved). m .refusal) (chosen-accepted 11 (curve x) (curve y) d (r .kept) upper lower (r .x-bounded) (r .y-bounded) h);
       }
 
   meets : Demand3 x y d along

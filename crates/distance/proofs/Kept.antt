@@ -9,7 +9,7 @@ use native.Mathlib.Omega.{arith}
 use lib.Dec.{ltb, lit≤}
 use lib.Pow.{pow-mono}
 use lib.IntN.{ℤ, pos, negsuc}
-use borrow.Author.Tests.{le-leb, eq-eqb, ltb-true, eqb-true}
+use borrow.Author.Tests.{le-leb, ltb-true, eqb-true}
 use Rattle.numbers.proofs.Size.{Size}
 use Rattle.rules.specs.Rules.{unless, reach}
 use Rattle.rules.proofs.Laws.{rule-kept}
@@ -21,7 +21,7 @@ use Rattle.engine.specs.Registers.{Operation, halve, double, step, turn}
 use Rattle.engine.specs.Drawing.{stride, isDrawing, isAligned, ownRefusal, gated, callRefusal, turned, isRegister, areRegisters, refused, landed, answered, called}
 use Rattle.engine.proofs.Begin.{extent, reaches}
 use Rattle.engine.proofs.Accepted.{Lawful}
-use Rattle.engine.proofs.Stays.{multiple}
+use Rattle.engine.proofs.Stays.{multiple, is-drawing}
 use Rattle.engine.proofs.Turns.{halve-on, double-on, step-on}
 use Rattle.distance.specs.Calls.{ruled, settled}
 use Rattle.distance.proofs.Near.{At}
@@ -43,13 +43,10 @@ stride-below F n j e = ap (λ (k : ℕ). 2 ^ k) (left e)
     left e = omega arith
 
 pub kept-inside : (F : ℕ) (x y : Curve) (d : Drawing) → Kept F x y d → isDrawing F (d .level) (d .q) ≡ true
-unfolding isDrawing
 kept-inside F x y d k =
-    let level = le-leb (d .level) F (omega (arith, k .levels)) in
-    let position = le-leb (d .q) (2 ^ F) (k .on-x .within) in
     let whole : d .q % stride F (d .level) ≡ 0 =
     ap₂ (λ (u v : ℕ). u % v) (k .on-x .whole) (stride-below F (d .level) (k .below) (k .levels)) ∙ mul-mod-left (k .on-x .strides) (2 ^ k .below) in
-    λ i. level i && position i && eq-eqb (d .q % stride F (d .level)) 0 whole i
+    is-drawing F (d .level) (d .q) (omega (arith, k .levels)) (k .on-x .within) whole
 
 pub kept-ruled : (F : ℕ) (x y : Curve) (d : Drawing) (op : Operation) → Kept F x y d → callRefusal F op (d .level) (d .q) ≡ ruled F op (d .level) (d .q)
 unfolding callRefusal gated ruled
@@ -65,7 +62,7 @@ allowed F op n q e =
     let f = rule-kept (ltb q (2 ^ F)) 4 (ownRefusal F op n q) e in
     (ltb-true q (2 ^ F) (f .0), f .1)
 
-less-one : (n : ℕ) → suc n - 1 ≡ n
+pub less-one : (n : ℕ) → suc n - 1 ≡ n
 less-one n = omega arith
 
 halve-at : (F : ℕ) (f : Curve) (n j q : ℕ) (r : Registers) → n + j ≡ F → n < F → At F f n j q r → At F f (n + 1) (j - 1) q (turn halve n r)

@@ -23,6 +23,12 @@ multiple q t e = sym (div-add-mod' q t) ∙ ap (λ (m : ℕ). q / t * t + m) e �
 remainder : (q m t : ℕ) → q ≡ m * t → q % t ≡ 0
 remainder q m t e = ap (λ (x : ℕ). x % t) e ∙ mul-mod-left m t
 
+-- below a multiple of s, the next multiple is still inside
+pub next-multiple : (G M s q m : ℕ) → G ≡ M * s → q ≡ m * s → q < G → q + s ≤ G
+next-multiple G M s q m e w h =
+    let l : m < M = lt-of-mul-lt-mul-right s (subst (λ (t : ℕ). t < M * s) w (subst (λ (t : ℕ). q < t) e h)) in
+    omega (arith, mul-le-mul-right s l)
+
 -- two finer strides are one
 pub two-finer : (F n : ℕ) → n < F → stride F n ≡ 2 * stride F (n + 1)
 two-finer F n h =
@@ -38,20 +44,17 @@ one-coarser F n h k =
 pub step-within : (F n q : ℕ) → Open F n q → q + stride F n ≤ 2 ^ F
 step-within F n q o =
     let s = stride F n in
-    let m = q / s in
-    let whole : 2 ^ F ≡ 2 ^ n * s = ap (λ (k : ℕ). 2 ^ k) (parts F n (o .inside .level)) ∙ pow-add 2 n (F - n) in
-    let w : q ≡ m * s = multiple q s (o .inside .whole) in
-    let l : m < 2 ^ n = lt-of-mul-lt-mul-right s (subst (λ (t : ℕ). t < 2 ^ n * s) w (subst (λ (t : ℕ). q < t) whole (o .before-end))) in
-    omega (arith, mul-le-mul-right s l)
+    let end : 2 ^ F ≡ 2 ^ n * s = ap (λ (k : ℕ). 2 ^ k) (parts F n (o .inside .level)) ∙ pow-add 2 n (F - n) in
+    next-multiple (2 ^ F) (2 ^ n) s q (q / s) end (multiple q s (o .inside .whole)) (o .before-end)
   where
     parts : (F n : ℕ) → n ≤ F → F ≡ n + (F - n)
     parts F n h = omega arith
 
 -- ---- the three operations
 
-lawful : (F n q : ℕ) → n ≤ F → q ≤ 2 ^ F → q % stride F n ≡ 0 → isDrawing F n q ≡ true
+pub is-drawing : (F n q : ℕ) → n ≤ F → q ≤ 2 ^ F → q % stride F n ≡ 0 → isDrawing F n q ≡ true
 unfolding isDrawing
-lawful F n q h k e = λ i. le-leb n F h i && le-leb q (2 ^ F) k i && eq-eqb (q % stride F n) 0 e i
+is-drawing F n q h k e = λ i. le-leb n F h i && le-leb q (2 ^ F) k i && eq-eqb (q % stride F n) 0 e i
 
 pub stays : (F : ℕ) (op : Operation) (n q : ℕ) → callRefusal F op n q ≡ 0 → isDrawing F (newLevel op n) (newPosition F op n q) ≡ true
 unfolding isAligned
@@ -61,18 +64,18 @@ stays F halve n q e =
     let s = stride F (n + 1) in
     let w : q ≡ q / stride F n * 2 * s =
     multiple q (stride F n) (c .0 .inside .whole) ∙ ap (λ (t : ℕ). q / stride F n * t) (two-finer F n h) ∙ sym (mul-assoc (q / stride F n) 2 s) in
-    lawful F (n + 1) q (omega arith) (c .0 .inside .position) (remainder q (q / stride F n * 2) s w)
+    is-drawing F (n + 1) q (omega arith) (c .0 .inside .position) (remainder q (q / stride F n * 2) s w)
 stays F double n q e =
     let c = call-opens F double n q e in
     let f = rule-kept (ltb 0 n) 6 (unless (isAligned F n q) 8 0) (c .1) in
     let h = ltb-true 0 n (f .0) in
     let even = eqb-true (q % (2 * stride F n)) 0 (rule-kept (isAligned F n q) 7 0 (f .1) .0) in
-    lawful F (n - 1) q (omega (arith, c .0 .inside .level)) (c .0 .inside .position) (ap (λ (t : ℕ). q % t) (one-coarser F n h (c .0 .inside .level)) ∙ even)
+    is-drawing F (n - 1) q (omega (arith, c .0 .inside .level)) (c .0 .inside .position) (ap (λ (t : ℕ). q % t) (one-coarser F n h (c .0 .inside .level)) ∙ even)
 stays F step n q e =
     let o = call-opens F step n q e .0 in
     let s = stride F n in
     let w : q + s ≡ (q / s + 1) * s = ap (λ (t : ℕ). t + s) (multiple q s (o .inside .whole)) ∙ one-more (q / s) s in
-    lawful F n (q + s) (o .inside .level) (step-within F n q o) (remainder (q + s) (q / s + 1) s w)
+    is-drawing F n (q + s) (o .inside .level) (step-within F n q o) (remainder (q + s) (q / s + 1) s w)
   where
     one-more : (m s : ℕ) → m * s + s ≡ (m + 1) * s
     one-more m s = omega arith

@@ -2,7 +2,7 @@
 -- bounded as it would be at the finest level, which halve and double leave as it is, and d's error by q alone.
 use mathlib.Core.Path.{_≡_, sym, ap, ap₂, _∙_, subst}
 use Prim.Native.Nat.{ℕ, suc, _+_, _*_, _^_, _≤_, _<_}
-use native.Mathlib.Nat.{pow-succ', mul-assoc, mul-pos, zero-mul, mul-le-mul-right, lt-of-mul-lt-mul-right}
+use native.Mathlib.Nat.{pow-succ', mul-assoc, mul-pos, zero-mul}
 use borrow.Author.Needs.{zero≤}
 use native.Mathlib.Omega.{arith}
 use lib.Pow.{pow-pos, pow-add}
@@ -15,6 +15,7 @@ use Rattle.engine.specs.declared.Registers.{Registers}
 use Rattle.engine.specs.Curve.{Curve}
 use Rattle.engine.specs.Registers.{halve, double, step, turn, startRegisters, unit, _>>_}
 use Rattle.engine.proofs.Back.{halve-after-double}
+use Rattle.engine.proofs.Stays.{next-multiple}
 use Rattle.engine.proofs.Exact.{alpha, drift, alphaOf, lagOf, missOf, placeE, step-lag-low, step-lag-high, step-miss, step-low, step-high, drift-low, drift-high, start-low, start-high}
 use Rattle.engine.proofs.Refined.{Exactly, halve-exact, double-exact, step-exact, refined, next-levels, Bracket, bracket}
 
@@ -69,11 +70,6 @@ module _ (κ G : ℕ) (f : Curve) where
 
   -- ---- a step, before the end
 
-  next-within : (n j q m : ℕ) → G ≡ 2 ^ n * 2 ^ j → q ≡ m * 2 ^ j → q < G → q + 2 ^ j ≤ G
-  next-within n j q m e w h =
-      let l : m < 2 ^ n = lt-of-mul-lt-mul-right (2 ^ j) (subst (λ (t : ℕ). t < 2 ^ n * 2 ^ j) w (subst (λ (t : ℕ). q < t) e h)) in
-      omega (arith, mul-le-mul-right (2 ^ j) l)
-
   module _ (n j q : ℕ) (r : Registers) (o : On κ G f n j q r) where
     abbrev lag-now : ℤ
     lag-now = lagOf κ G f (2 ^ j) q (r .c)
@@ -114,7 +110,7 @@ module _ (κ G : ℕ) (f : Curve) where
           levels = o .levels;
           strides = o .strides + 1;
           whole = omega (arith, o .whole);
-          within = next-within n j q (o .strides) (o .levels) (o .whole) h;
+          within = next-multiple G (2 ^ n) (2 ^ j) q (o .strides) (o .levels) (o .whole) h;
           exact = step-exact κ G f n (2 ^ j) q r (o .exact);
           c-low = step-low (pos q) (pos (2 ^ j)) (pos G) _ _ lag-now _ (after .low) falls-little (now .high) (o .c-low);
           c-high = step-high (pos q) (pos (2 ^ j)) (pos G) _ _ lag-now _ (nat G) (after .high) falls (now .low) (o .c-high);

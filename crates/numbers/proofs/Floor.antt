@@ -32,7 +32,7 @@ no-more m (pos (suc n)) h p =
     absurd no
 no-more m (negsuc n) h p = record { le = tt }
 
--- m·y ≤ z' and z ≤ m·y' + m - 1 with z' ≤ z leave y ≤ y'
+-- m·y ≤ z ≤ m·y' + m - 1 leaves y ≤ y'
 floor-mono : (m : ℕ) (y y' z : ℤ) → 0 < m → (pos m *ℤ y) ≤ℤ z → z ≤ℤ (pos m *ℤ y' +ℤ pos m -ℤ pos 1) → y ≤ℤ y'
 floor-mono m y y' z p h k =
     let below : (pos m *ℤ (y -ℤ y')) ≤ℤ (pos m -ℤ pos 1) =
