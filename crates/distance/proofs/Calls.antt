@@ -1,7 +1,7 @@
 -- Every list of calls from an accepted start: the invariant holds of the drawing reached, and q is the sum of the steps taken.
 use mathlib.Core.Path.{_≡_, refl, sym, ap, _∙_, subst}
 use mathlib.Core.Bool.{Bool, cond}
-use mathlib.Core.List.{List, [], _∷_}
+use mathlib.Core.List.{List, [], _∷_, _++_}
 use Prim.Native.Nat.{ℕ, zero, suc, _+_, _-_, _*_, _^_, _≤_}
 use native.Mathlib.Nat.{add-zero, add-assoc, add-sub-of-le}
 use lib.Dec.{eqb, eqb·suc-zero}
@@ -32,6 +32,10 @@ first-kept F x y n h l =
     }
 
 -- ---- one call and lists of calls
+
+pub after-one : (F : ℕ) (ops : List Operation) (op : Operation) (d : Drawing) → after F (ops ++ op ∷ []) d ≡ called F op (after F ops d) .drawing
+after-one F [] op d = refl
+after-one F (o ∷ ops) op d = after-one F ops op (called F o d .drawing)
 
 module _ (F : ℕ) (x y : Curve) (fx : Bounded F x) (fy : Bounded F y) where
   settled-kept : (k : ℕ) (old new : Drawing) → Kept F x y old → (k ≡ 0 → Kept F x y new) → Kept F x y (settled k old new .drawing)

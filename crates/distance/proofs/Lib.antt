@@ -6,4 +6,5 @@ pub mod Ends
 pub mod Calls
 pub mod Back
 pub mod Choice
+pub mod Touching
 pub mod Demand3

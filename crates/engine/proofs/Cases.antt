@@ -7,7 +7,8 @@ use mathlib.Core.Option.{Option, none, some}
 use Prim.Native.Nat.{ℕ}
 use lib.Dec.{T, eqb, eqb→eq}
 use lib.IntN.{ℤ, pos, negsuc}
-use Rattle.numbers.proofs.Tables.{All, every, tested, eqbℤ, eqbℤ→eq}
+use Rattle.numbers.proofs.Tests.{eqbℤ, eqbℤ→eq}
+use Rattle.numbers.proofs.Tables.{All, every, tested}
 use Rattle.rules.specs.Rules.{finest, isCoordinate, areNeighbours, isLevel}
 use Rattle.engine.specs.declared.Control.{Control}
 use Rattle.engine.specs.declared.Moved.{Moved}
@@ -55,7 +56,7 @@ pub record Holds (w : Row) : Type 0 where
 
 -- ---- the table
 
-abbrev line : ℤ → ℤ → ℤ → ℤ → Control
+abbrev pub line : ℤ → ℤ → ℤ → ℤ → Control
 line p q r s = record { p0 = p; p1 = q; p2 = r; p3 = s }
 
 -- a row whose start is accepted
@@ -104,11 +105,11 @@ table =
 
 -- ---- one test for all
 
-abbrev agrees : {A : Type 0} → (A → A → Bool) → Option A → A → Bool
+abbrev pub agrees : {A : Type 0} → (A → A → Bool) → Option A → A → Bool
 agrees eq none x = true
 agrees eq (some y) x = eq x y
 
-agreed : {A : Type 0} (eq : A → A → Bool) → ((x y : A) → T (eq x y) → x ≡ y) → (o : Option A) (x : A) → T (agrees eq o x) → Agrees o x
+pub agreed : {A : Type 0} (eq : A → A → Bool) → ((x y : A) → T (eq x y) → x ≡ y) → (o : Option A) (x : A) → T (agrees eq o x) → Agrees o x
 agreed eq h none x t = tt
 agreed eq h (some y) x t = h x y t
 

@@ -1,24 +1,20 @@
 -- Why a drawing ends: a number that falls with every chosen operation. It needs no bound on the registers, only that the double is
 -- chosen with a look at the doubled increments.
-use mathlib.Core.Path.{_≡_, refl}
-use mathlib.Core.Bool.{Bool, true, false, cond, _&&_, _||_}
+use mathlib.Core.Path.{_≡_, refl, subst}
+use mathlib.Core.Bool.{Bool, true, false, cond, _&&_, _||_, true≢false}
 use Prim.Native.Nat.{ℕ, _+_, _-_, _*_, _^_, _≤_, _<_}
 use native.Mathlib.Nat.{mul-le-mul-right}
 use native.Mathlib.Omega.{arith}
 use lib.Dec.{leb, ltb}
 use lib.Pow.{pow-pos}
-use borrow.Author.Tests.{ltb-true, leb-true, le-ltb}
+use borrow.Author.Tests.{ltb-true, ltb-false, leb-true, lt-ltb, le-ltb}
 use Rattle.numbers.proofs.Tests.{and-true, and-four}
 use Rattle.engine.specs.declared.Drawing.{Drawing}
 use Rattle.engine.specs.Registers.{Operation, halve, double, step}
 use Rattle.engine.specs.Drawing.{stride, isAligned, turned}
 use Rattle.engine.proofs.Gates.{Open}
 use Rattle.engine.proofs.Stays.{step-within}
-use Rattle.engine.specs.Choice.{increment, doubledIncrement, wantsHalve, wantsDouble, chosen}
-
--- 2F + 2 for each unit of q that is left, and for the level how far it may still be halved, or doubled
-abbrev pub left : ℕ → ℕ → Drawing → ℕ
-left F upper d = (2 ^ F - d .q) * (2 * F + 2) + cond (wantsHalve F upper d) (2 * F + 1 - d .level) (d .level)
+use Rattle.engine.specs.Choice.{increment, doubledIncrement, wantsHalve, wantsDouble, chosen, left}
 
 -- ---- what the rules say of the drawing
 
@@ -42,6 +38,21 @@ unfolding wantsHalve
 halve-chosen F upper d e =
     let large = ltb upper (increment (d .level) (d .x)) || ltb upper (increment (d .level) (d .y)) in
     ltb-true (d .level) F (and-true large (ltb (d .level) F) e .1)
+
+-- where the upper test does not ask to halve, off the finest level
+pub limited : (F upper : ℕ) (d : Drawing) → wantsHalve F upper d ≡ false → d .level < F
+    → (increment (d .level) (d .x) ≤ upper) × (increment (d .level) (d .y) ≤ upper)
+unfolding wantsHalve
+limited F upper d e h =
+    let x = increment (d .level) (d .x) in
+    let y = increment (d .level) (d .y) in
+    let f = neither (ltb upper x) (ltb upper y) (subst (λ (b : Bool). ((ltb upper x || ltb upper y) && b) ≡ false) (lt-ltb (d .level) F h) e) in
+    (ltb-false upper x (f .0), ltb-false upper y (f .1))
+  where
+    neither : (a b : Bool) → ((a || b) && true) ≡ false → (a ≡ false) × (b ≡ false)
+    neither false false e = (refl, refl)
+    neither false true e = absurd (true≢false e)
+    neither true b e = absurd (true≢false e)
 
 pub record Doubling (F upper : ℕ) (d : Drawing) : Type 0 where
   pub above : 0 < d .level

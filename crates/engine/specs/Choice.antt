@@ -2,7 +2,7 @@
 use mathlib.Core.Bool.{Bool, cond, _&&_, _||_}
 use mathlib.Core.List.{List, [], _∷_}
 use mathlib.Core.Option.{Option, none, some}
-use Prim.Native.Nat.{ℕ, zero, suc, _-_}
+use Prim.Native.Nat.{ℕ, zero, suc, _+_, _-_, _*_, _^_}
 use lib.Dec.{leb, ltb}
 use lib.IntN.{natAbs}
 use Rattle.rules.specs.Rules.{unless, areLimits}
@@ -36,6 +36,11 @@ wantsDouble F upper lower d =
 -- in this order; 3: otherwise step
 unfoldable pub chosen : ℕ → ℕ → ℕ → Drawing → Operation
 chosen F upper lower d = cond (wantsHalve F upper d) halve (cond (wantsDouble F upper lower d) double step)
+
+-- A number that falls with every chosen operation (`chosen-falls` in proofs/Ends), so that no more operations than this are left: 2F + 2
+-- for each unit of q, and for the level how far it may still be halved, or doubled.
+abbrev pub left : ℕ → ℕ → Drawing → ℕ
+left F upper d = (2 ^ F - d .q) * (2 * F + 2) + cond (wantsHalve F upper d) (2 * F + 1 - d .level) (d .level)
 
 -- 4, 10 by level and q, 5
 unfoldable pub choiceRefusal : ℕ → ℕ → ℕ → ℕ → ℕ → ℕ

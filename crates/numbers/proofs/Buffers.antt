@@ -3,11 +3,10 @@
 use mathlib.Core.Path.{_≡_, refl, sym, ap, _∙_}
 use mathlib.Core.List.{List, [], _∷_, _++_}
 use Prim.Native.Nat.{ℕ, suc, _+_, _≤_}
-use native.Mathlib.Nat.{add-zero, zero-add}
-use native.Mathlib.Numerals.{add-one}
+use native.Mathlib.Nat.{add-zero, zero-add, le-trans, le-suc}
 use native.Mathlib.Omega.{arith}
 use lib.ListN.{length, drop, set, length-append}
-use lib.Seq.{sets, sets-eq}
+use lib.Seq.{sets, sets-eq, set-out}
 
 module _ {A : Type 0} where
   pub sets-append : (l : List A) (i : ℕ) (u v : List A) → sets l i (u ++ v) ≡ sets (sets l i u) (i + length u) v
@@ -15,6 +14,11 @@ module _ {A : Type 0} where
   sets-append l i (x ∷ u) v =
       let e : suc i + length u ≡ i + suc (length u) = omega arith in
       sets-append (set l i x) (suc i) u v ∙ ap (λ (n : ℕ). sets (sets l i (x ∷ u)) n v) e
+
+  -- past the end nothing changes
+  pub sets-out : (l : List A) (i : ℕ) (u : List A) → length l ≤ i → sets l i u ≡ l
+  sets-out l i [] h = refl
+  sets-out l i (x ∷ u) h = ap (λ (k : List A). sets k (suc i) u) (set-out l i x h) ∙ sets-out l (suc i) u (le-trans h (le-suc i))
 
   -- a run that fits, stored from the front: the values, and then what stood after them
   pub sets-front : (l vs : List A) → length vs ≤ length l → sets l 0 vs ≡ vs ++ drop (length vs) l
@@ -34,9 +38,6 @@ module _ {A : Type 0} where
   -- the values u are stored
   pub stored : (l : List A) (n : ℕ) (u rest : List A) → Ahead (sets l n u) (n + length u) rest l n (u ++ rest)
   stored l n u rest = record { count = rw (length-append u rest) (omega arith); list = sym (sets-append l n u rest) }
-
-  pub stored-one : {l k : List A} {n m : ℕ} {x : A} {rest all : List A} → Ahead l n (x ∷ rest) k m all → Ahead (set l n x) (n + 1) rest k m all
-  stored-one {n = n} a = record { count = omega (arith, a .count); list = rw (add-one n) (a .list) }
 
   -- nothing is to come
   pub stored-all : {l k : List A} {n m : ℕ} {rest all : List A} → rest ≡ [] → Ahead l n rest k m all → l ≡ sets k m all

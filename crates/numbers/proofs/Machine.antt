@@ -2,6 +2,7 @@
 -- A proof follows its code: a parameter or a field is `field`, what went through a local is `local`, and `shift`, `plus`, `minus` and
 -- `times` are the operations. The bounds are numerals that antt computes, so that each condition is `tt`.
 use mathlib.Core.Path.{_≡_, refl, sym, ap, _∙_, subst}
+use mathlib.Core.Bool.{true, false}
 use Prim.Native.Nat.{ℕ, _+_, _*_, _^_, _≤_, _<_}
 use native.Mathlib.Nat.{lt-of-le-of-lt, le-of-lt}
 use native.Mathlib.Omega.{arith}
@@ -13,6 +14,7 @@ use mir.Syntax.{Width, w32, w64}
 use mir.Val.{Fits, SFits, toZ, ofZ, bits, hbits}
 use mir.Facts.{toZ-ofZ, sfits-widen}
 use borrow.Author.Needs.{needs}
+use Rattle.numbers.proofs.Tests.{eqbℤ, eq→eqbℤ, ne→eqbℤ}
 use Rattle.numbers.proofs.Size.{Size, size-of, size-sum, size-difference, size-product, size-by, size-floor, size-shift}
 
 pub record Num (N : ℕ) (z : ℤ) : Type 0 where
@@ -99,6 +101,14 @@ minus a b =
 abbrev pub times : {N M : ℕ} {u v : ℤ} → Num N u → Num M v → Num (N * M) (u *ℤ v)
 times a b =
     record { machine = a .machine *ℤ b .machine; is = λ i. a .is i *ℤ b .is i; small = size-product (a .small) (b .small) }
+
+-- ---- equal numbers, by their bits
+
+pub same-bits : {w : Width} {x y : ℤ} → SFits w x → SFits w y → ofZ w x ≡ ofZ w y → eqbℤ x y ≡ true
+same-bits {w} {x} {y} f g e = eq→eqbℤ x y (sym (toZ-ofZ f) ∙ ap (toZ w) e ∙ toZ-ofZ g)
+
+pub other-bits : (w : Width) (x y : ℤ) → (ofZ w x ≡ ofZ w y → ⊥) → eqbℤ x y ≡ false
+other-bits w x y h = ne→eqbℤ x y (λ e. h (ap (ofZ w) e))
 
 -- ---- casts
 

@@ -1,12 +1,25 @@
 -- The order of ℤ. An inequality is shown by a certificate: y - x is, by a ring identity, a sum of products of numbers that are
 -- known to be 0 or more.
-use mathlib.Core.Path.{_≡_, sym, subst}
+use mathlib.Core.Path.{_≡_, refl, sym, subst}
+use mathlib.Core.Bool.{Bool, true, false}
 use Prim.Native.Nat.{ℕ, _+_, _*_, _≤_}
 use native.Mathlib.Omega.{arith}
-use lib.Dec.{leb→le, le→leb}
+use lib.Dec.{T, leb→le, le→leb}
 use lib.IntN.{ℤ, pos, negsuc, negℤ, _+ℤ_, _-ℤ_, _*ℤ_}
-use lib.Signed.{_≤ℤ_}
+use lib.Signed.{leZ, _≤ℤ_}
 use Rattle.numbers.proofs.Parts.{up, down, same, add-parts, neg-parts}
+
+-- ---- the order and its test
+
+pub leZ-true : (x y : ℤ) → leZ x y ≡ true → x ≤ℤ y
+leZ-true x y e = record { le = subst T (sym e) tt }
+
+pub le-leZ : {x y : ℤ} → x ≤ℤ y → leZ x y ≡ true
+le-leZ {x} {y} h = passed (leZ x y) (h .le)
+  where
+    passed : (b : Bool) → T b → b ≡ true
+    passed true t = refl
+    passed false t = absurd t
 
 -- ---- the order in the parts, for `omega`
 

@@ -1,9 +1,7 @@
--- A rule that holds at every entry of a table, shown by one test that antt computes over the whole table.
-use mathlib.Core.Path.{_≡_, ap}
-use mathlib.Core.Bool.{Bool, true, false, _&&_}
-use mathlib.Core.List.{List, [], _∷_}
-use lib.Dec.{T, eqb, eqb→eq}
-use lib.IntN.{ℤ, pos, negsuc}
+-- A rule that holds at every entry of a table, shown by one test that antt computes over the whole table, or part by part.
+use mathlib.Core.Bool.{Bool, true, _&&_}
+use mathlib.Core.List.{List, [], _∷_, _++_, map}
+use lib.Dec.{T}
 use mir.Facts.{and-yes}
 
 abbrev pub All : {A : Type 0} → (A → Type 0) → List A → Type 0
@@ -18,15 +16,10 @@ pub tested : {A : Type 0} (P : A → Type 0) (f : A → Bool) → ((x : A) → T
 tested P f h [] t = tt
 tested P f h (x ∷ xs) t = let ts = and-yes (f x) (every f xs) t in (h x (ts .0), tested P f h xs (ts .1))
 
--- a test for equal whole numbers
-abbrev pub eqbℤ : ℤ → ℤ → Bool
-eqbℤ (pos a) (pos b) = eqb a b
-eqbℤ (pos a) (negsuc b) = false
-eqbℤ (negsuc a) (pos b) = false
-eqbℤ (negsuc a) (negsuc b) = eqb a b
+pub all-append : {A : Type 0} (P : A → Type 0) (xs ys : List A) → All P xs → All P ys → All P (xs ++ ys)
+all-append P [] ys h k = k
+all-append P (x ∷ xs) ys h k = (h .0, all-append P xs ys (h .1) k)
 
-pub eqbℤ→eq : (x y : ℤ) → T (eqbℤ x y) → x ≡ y
-eqbℤ→eq (pos a) (pos b) t = ap pos (eqb→eq a b t)
-eqbℤ→eq (pos a) (negsuc b) t = absurd t
-eqbℤ→eq (negsuc a) (pos b) t = absurd t
-eqbℤ→eq (negsuc a) (negsuc b) t = ap negsuc (eqb→eq a b t)
+pub all-map : {A B : Type 0} (P : B → Type 0) (f : A → B) (xs : List A) → All (λ x. P (f x)) xs → All P (map f xs)
+all-map P f [] h = tt
+all-map P f (x ∷ xs) h = (h .0, all-map P f xs (h .1))

@@ -1,12 +1,14 @@
--- Tests, that is values of Bool: what a test of several parts says, and the tests of ℤ.
-use mathlib.Core.Path.{_≡_, refl, sym, _∙_}
+-- Tests, that is values of Bool: what a test of several parts says, and the tests of ℤ and of lists of them.
+use mathlib.Core.Path.{_≡_, refl, sym, ap, ap₂, _∙_}
 use mathlib.Core.Bool.{Bool, true, false, _&&_, false≢true, true≢false}
+use mathlib.Core.List.{List, [], _∷_}
 use Prim.Native.Nat.{ℕ, suc, _<_}
 use native.Mathlib.Nat.{not-suc-le-zero, zero-add}
-use lib.Dec.{T, leb, leb·suc-suc}
+use lib.Dec.{T, leb, eqb, eqb→eq, leb·suc-suc}
 use lib.IntN.{ℤ, pos, negsuc, natAbs, _-ℤ_}
 use lib.Signed.{leZ, ltZ, nonNeg}
-use borrow.Author.Tests.{ltb-true}
+use borrow.Author.Tests.{ltb-true, eq-eqb, ne-eqb}
+use mir.Facts.{and-yes}
 
 pub and-true : (a b : Bool) → (a && b) ≡ true → (a ≡ true) × (b ≡ true)
 and-true true b e = (refl, e)
@@ -41,3 +43,44 @@ below-zero (negsuc n) e = (tt, zero-add (suc n))
 pub from-zero : (z : ℤ) → ltZ z (pos 0) ≡ false → T (nonNeg z)
 from-zero (pos n) e = tt
 from-zero (negsuc n) e = absurd (true≢false e)
+
+-- the same whole number
+abbrev pub eqbℤ : ℤ → ℤ → Bool
+eqbℤ (pos a) (pos b) = eqb a b
+eqbℤ (pos a) (negsuc b) = false
+eqbℤ (negsuc a) (pos b) = false
+eqbℤ (negsuc a) (negsuc b) = eqb a b
+
+pub eqbℤ→eq : (x y : ℤ) → T (eqbℤ x y) → x ≡ y
+eqbℤ→eq (pos a) (pos b) t = ap pos (eqb→eq a b t)
+eqbℤ→eq (pos a) (negsuc b) t = absurd t
+eqbℤ→eq (negsuc a) (pos b) t = absurd t
+eqbℤ→eq (negsuc a) (negsuc b) t = ap negsuc (eqb→eq a b t)
+
+pub eq→eqbℤ : (x y : ℤ) → x ≡ y → eqbℤ x y ≡ true
+eq→eqbℤ x y e = ap (λ (z : ℤ). eqbℤ z y) e ∙ itself y
+  where
+    itself : (z : ℤ) → eqbℤ z z ≡ true
+    itself (pos a) = eq-eqb a a refl
+    itself (negsuc a) = eq-eqb a a refl
+
+pub ne→eqbℤ : (x y : ℤ) → (x ≡ y → ⊥) → eqbℤ x y ≡ false
+ne→eqbℤ (pos a) (pos b) h = ne-eqb a b (λ e. h (ap pos e))
+ne→eqbℤ (pos a) (negsuc b) h = refl
+ne→eqbℤ (negsuc a) (pos b) h = refl
+ne→eqbℤ (negsuc a) (negsuc b) h = ne-eqb a b (λ e. h (ap negsuc e))
+
+-- the same whole numbers, one after another
+abbrev pub eqbℤs : List ℤ → List ℤ → Bool
+eqbℤs [] [] = true
+eqbℤs [] (y ∷ ys) = false
+eqbℤs (x ∷ xs) [] = false
+eqbℤs (x ∷ xs) (y ∷ ys) = eqbℤ x y && eqbℤs xs ys
+
+pub eqbℤs→eq : (xs ys : List ℤ) → T (eqbℤs xs ys) → xs ≡ ys
+eqbℤs→eq [] [] t = refl
+eqbℤs→eq [] (y ∷ ys) t = absurd t
+eqbℤs→eq (x ∷ xs) [] t = absurd t
+eqbℤs→eq (x ∷ xs) (y ∷ ys) t =
+    let ts = and-yes (eqbℤ x y) (eqbℤs xs ys) t in
+    ap₂ _∷_ (eqbℤ→eq x y (ts .0)) (eqbℤs→eq xs ys (ts .1))

@@ -6,7 +6,7 @@ use Prim.Native.Nat.{ℕ}
 use lib.Dec.{T}
 use lib.IntN.{ℤ, pos, negsuc}
 use Rattle.numbers.proofs.Tables.{All, tested}
-use Rattle.rules.specs.Rules.{finest, isCoordinate, areNeighbours, isLevel, areLimits, isSize}
+use Rattle.rules.specs.Rules.{finest, isCoordinate, areNeighbours, isLevel, areLimits, isSize, arePoints, areBeside, areChained}
 
 pub data Rule : Type 0 where
   coordinate : ℤ → Rule
@@ -14,6 +14,8 @@ pub data Rule : Type 0 where
   level : ℕ → Rule
   limits : ℕ → ℕ → Rule
   size : ℕ → ℕ → Rule
+  points : List ℤ → Rule
+  chained : List ℤ → Rule
 
 abbrev pub keeps : Rule → Bool
 keeps (coordinate p) = isCoordinate p
@@ -21,6 +23,8 @@ keeps (neighbours p p') = areNeighbours p p'
 keeps (level n) = isLevel finest n
 keeps (limits upper lower) = areLimits upper lower
 keeps (size S numbers) = isSize S numbers
+keeps (points numbers) = arePoints numbers
+keeps (chained numbers) = areChained numbers
 
 pub record Row : Type 0 where
   pub rule : Rule
@@ -64,6 +68,17 @@ table =
     ∷ no (size 0 2)
     ∷ yes (size 64 386)
     ∷ no (size 65 392)
+    -- each number of a path's points is a coordinate, the first and the last too
+    ∷ yes (points (negsuc 16383 ∷ pos 16383 ∷ pos 16383 ∷ negsuc 16383 ∷ []))
+    ∷ no (points (negsuc 16384 ∷ pos 0 ∷ pos 0 ∷ pos 0 ∷ []))
+    ∷ no (points (pos 0 ∷ pos 16384 ∷ pos 0 ∷ pos 0 ∷ []))
+    ∷ no (points (pos 0 ∷ pos 0 ∷ pos 0 ∷ pos 16384 ∷ []))
+    -- x and x, y and y of neighbouring points differ by at most 682: not x and y of one point, nor points further on
+    ∷ yes (chained (pos 0 ∷ pos 16383 ∷ pos 682 ∷ pos 15701 ∷ pos 1364 ∷ pos 15019 ∷ []))
+    ∷ no (chained (pos 0 ∷ pos 0 ∷ pos 683 ∷ pos 0 ∷ pos 683 ∷ pos 0 ∷ []))
+    ∷ no (chained (pos 0 ∷ pos 0 ∷ pos 0 ∷ pos 683 ∷ pos 0 ∷ pos 683 ∷ []))
+    ∷ no (chained (pos 0 ∷ pos 0 ∷ pos 0 ∷ pos 0 ∷ pos 683 ∷ pos 0 ∷ []))
+    ∷ no (chained (pos 0 ∷ pos 0 ∷ pos 0 ∷ pos 0 ∷ pos 0 ∷ pos 683 ∷ []))
     ∷ []
 
 -- ---- one test for all
@@ -82,5 +97,5 @@ abbrev right : Row → Bool
 right w = agree (keeps (w .rule)) (w .kept)
 
 pub cases : All Holds table
-unfolding table isCoordinate areNeighbours isLevel areLimits isSize
+unfolding table isCoordinate areNeighbours isLevel areLimits isSize arePoints areBeside areChained
 cases = tested Holds right (λ w t. agreed (keeps (w .rule)) (w .kept) t) table tt

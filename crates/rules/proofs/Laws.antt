@@ -1,15 +1,17 @@
 -- How tables of refusals are read, and what the rules say of the numbers that they accept.
-use mathlib.Core.Path.{_≡_, refl}
-use mathlib.Core.Bool.{Bool, true, false}
+use mathlib.Core.Path.{_≡_, refl, ap₂}
+use mathlib.Core.Bool.{Bool, true, false, _&&_}
 use mathlib.Core.List.{List}
-use Prim.Native.Nat.{ℕ, suc, _≤_}
+use Prim.Native.Nat.{ℕ, suc, _+_, _*_, _≤_}
 use native.Mathlib.Omega.{arith}
-use lib.Dec.{T, leb}
+use lib.Dec.{T, leb, eqb}
 use lib.IntN.{ℤ, pos, negsuc, _-ℤ_}
-use borrow.Author.Tests.{leb-true}
+use lib.Signed.{leZ, _≤ℤ_}
+use borrow.Author.Tests.{leb-true, eqb-true, le-leb, eq-eqb}
+use Rattle.numbers.proofs.Order.{leZ-true, le-leZ}
 use Rattle.numbers.proofs.Size.{Size}
 use Rattle.numbers.proofs.Tests.{and-true, and-three}
-use Rattle.rules.specs.Rules.{unless, isAmong, Among, isCoordinate, areNeighbours, reach, areLimits}
+use Rattle.rules.specs.Rules.{unless, isAmong, Among, isCoordinate, areNeighbours, reach, areLimits, degree, coordinates, mostSegments, isSize}
 
 -- ---- tables of refusals
 
@@ -34,6 +36,16 @@ unfolding isCoordinate
 coordinate-size (pos n) e = record { le = omega (arith, leb-true n 16383 e) }
 coordinate-size (negsuc n) e = record { le = omega (arith, leb-true n 16383 (and-true (leb n 16383) true e .0)) }
 
+pub coordinate-range : (p : ℤ) → isCoordinate p ≡ true → (negsuc 16383 ≤ℤ p) × (p ≤ℤ pos 16383)
+unfolding isCoordinate
+coordinate-range p e =
+    let t = and-true (leZ (negsuc 16383) p) (leZ p (pos 16383)) e in
+    (leZ-true (negsuc 16383) p (t .0), leZ-true p (pos 16383) (t .1))
+
+pub range-coordinate : {p : ℤ} → negsuc 16383 ≤ℤ p → p ≤ℤ pos 16383 → isCoordinate p ≡ true
+unfolding isCoordinate
+range-coordinate h k = ap₂ _&&_ (le-leZ h) (le-leZ k)
+
 pub neighbours-size : (p p' : ℤ) → areNeighbours p p' ≡ true → Size (p' -ℤ p) reach
 unfolding areNeighbours
 neighbours-size p p' e = record { le = leb-true _ reach e }
@@ -48,3 +60,25 @@ unfolding areLimits
 limits-hold upper lower e =
     let t = and-three (leb 1 upper) (leb upper 65536) (leb lower upper) e in
     record { least = leb-true 1 upper (t .0); most = leb-true upper 65536 (t .1); order = leb-true lower upper (t .2) }
+
+pub hold-limits : {upper lower : ℕ} → Limits upper lower → areLimits upper lower ≡ true
+unfolding areLimits
+hold-limits {upper} {lower} l =
+    ap₂ _&&_ (ap₂ _&&_ (le-leb 1 upper (l .least)) (le-leb upper 65536 (l .most))) (le-leb lower upper (l .order))
+
+pub record Sized (S numbers : ℕ) : Type 0 where
+  pub some : 1 ≤ S
+  pub most : S ≤ mostSegments
+  pub size : numbers ≡ coordinates * (degree * S + 1)
+
+pub size-holds : (S numbers : ℕ) → isSize S numbers ≡ true → Sized S numbers
+unfolding isSize
+size-holds S numbers e =
+    let n = coordinates * (degree * S + 1) in
+    let t = and-three (leb 1 S) (leb S mostSegments) (eqb numbers n) e in
+    record { some = leb-true 1 S (t .0); most = leb-true S mostSegments (t .1); size = eqb-true numbers n (t .2) }
+
+pub holds-size : {S numbers : ℕ} → Sized S numbers → isSize S numbers ≡ true
+unfolding isSize
+holds-size {S} {numbers} s =
+    ap₂ _&&_ (ap₂ _&&_ (le-leb 1 S (s .some)) (le-leb S mostSegments (s .most))) (eq-eqb numbers (coordinates * (degree * S + 1)) (s .size))

@@ -1,3 +1,4 @@
 -- Laws of the rules, for the crates that cite them.
 pub mod Laws
 pub mod Cases
+pub mod Every

@@ -1,9 +1,10 @@
 -- What document 01 accepts, by its refusal numbers 1 to 4 and 14, and how a table of refusals is read.
-use mathlib.Core.Bool.{Bool, false, cond, _&&_, _||_}
+use mathlib.Core.Bool.{Bool, true, false, cond, _&&_, _||_}
 use mathlib.Core.List.{List, [], _∷_}
 use Prim.Native.Nat.{ℕ, _+_, _*_}
 use lib.Dec.{T, leb, eqb}
 use lib.IntN.{ℤ, pos, negsuc, natAbs, _-ℤ_}
+use lib.ListN.{drop}
 use lib.Signed.{leZ}
 
 -- One line of a table of refusals: the number where the rule is broken, and else what the lines after it say. 0 is no refusal.
@@ -60,3 +61,20 @@ mostSegments = 64
 
 unfoldable pub isSize : ℕ → ℕ → Bool
 isSize S numbers = leb 1 S && leb S mostSegments && eqb numbers (coordinates * (degree * S + 1))
+
+-- ---- 1 and 2 over the points of a whole path, as numbers: x0, y0, x1, y1, ..
+
+-- 1: each number is a coordinate
+unfoldable pub arePoints : List ℤ → Bool
+arePoints [] = true
+arePoints (p ∷ ps) = isCoordinate p && arePoints ps
+
+-- numbers that stand beside each other in two lists are neighbours
+unfoldable pub areBeside : List ℤ → List ℤ → Bool
+areBeside [] ps' = true
+areBeside (p ∷ ps) [] = true
+areBeside (p ∷ ps) (p' ∷ ps') = areNeighbours p p' && areBeside ps ps'
+
+-- 2: each number and the same coordinate of the next point are neighbours
+unfoldable pub areChained : List ℤ → Bool
+areChained ps = areBeside ps (drop coordinates ps)

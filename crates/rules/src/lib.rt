@@ -1,6 +1,6 @@
 // The rules that every room shares: refusals 1 to 4 and 14 of document 01, as tests of any numbers.
 ghost use mathlib.Core.Path.{_≡_};
-ghost use Rattle.rules.specs.Rules.{finest, isCoordinate, areNeighbours, isLevel, areLimits, isSize};
+ghost use Rattle.rules.specs.Rules.{finest, isCoordinate, areNeighbours, isLevel, areLimits, isSize, arePoints, areChained};
 
 // The finest level: positions count 2^FINEST-ths of the parameter.
 pub const FINEST: u32 = 11;
@@ -50,4 +50,34 @@ pub fn size(segments: u32, numbers: usize) -> bool
         return false;
     }
     numbers == 2 * (3 * segments as usize + 1)
+}
+
+// 1 over a whole path's points where it fails.
+pub fn points(numbers: &[i32]) -> bool
+    ensures { λ r. ⌜ r ≡ arePoints (now (numbers .entry)) ⌝ }
+{
+    let mut i: usize = 0;
+    while i < numbers.len() {
+        if !coordinate(numbers[i]) {
+            return false;
+        }
+        i += 1;
+    }
+    true
+}
+
+// 2 over a whole path's points where it fails: j is the same coordinate as i, of the next point.
+pub fn chained(numbers: &[i32]) -> bool
+    ensures { λ r. ⌜ r ≡ areChained (now (numbers .entry)) ⌝ }
+{
+    let mut i: usize = 0;
+    let mut j: usize = 2;
+    while j < numbers.len() {
+        if !neighbours(numbers[i], numbers[j]) {
+            return false;
+        }
+        i += 1;
+        j += 1;
+    }
+    true
 }

@@ -1,0 +1,124 @@
+-- A path's list is its segments' lists, shifted and joined, and each segment of an accepted path is accepted by itself.
+use mathlib.Core.Path.{_≡_, refl, sym, ap, ap₂, _∙_}
+use mathlib.Core.Bool.{true}
+use mathlib.Core.List.{List, [], _∷_, _++_, map, tail, append-nil}
+use Prim.Native.Nat.{ℕ, zero, suc, _+_, _*_, _^_, _≤_, _<_}
+use native.Mathlib.Nat.{add-zero}
+use native.Mathlib.Omega.{arith}
+use lib.IntN.{pos}
+use lib.ListN.{length, getD, drop, length-drop}
+use lib.Seq.{length-take-le, getD-take, getD-drop}
+use Rattle.rules.specs.Rules.{isCoordinate, areNeighbours, degree, coordinates, isSize, arePoints, areChained}
+use Rattle.rules.proofs.Every.{points-hold, hold-points, chained-hold, hold-chained}
+use Rattle.engine.specs.declared.Drawing.{Drawing}
+use Rattle.engine.specs.Registers.{Operation, halve, double, step}
+use Rattle.path.specs.Path.{Path, pointAt, control, first}
+use Rattle.path.specs.Segment.{Turn, turns}
+use Rattle.path.specs.Entries.{entry, shown, shownBy, rest, following, entries}
+use Rattle.path.specs.Joined.{alone, shifted, placed, joins}
+use Rattle.path.specs.Answer.{measureRefusal}
+use Rattle.path.proofs.Accepted.{passed, all-passed, sized}
+
+-- ---- the numbers of a segment
+
+number-alone : (p : Path) (k i : ℕ) → i < coordinates * (degree + 1)
+    → getD (alone p k .points) i (pos 0) ≡ getD (p .points) (coordinates * (degree * k) + i) (pos 0)
+unfolding alone
+number-alone p k i h = rw (getD-take, getD-drop)
+
+point-alone : (p : Path) (k c i : ℕ) → c < coordinates → i ≤ degree → pointAt (alone p k .points) c i ≡ pointAt (p .points) c (degree * k + i)
+unfolding pointAt
+point-alone p k c i h l =
+    let there : coordinates * (degree * k) + (coordinates * i + c) ≡ coordinates * (degree * k + i) + c = omega arith in
+    number-alone p k (coordinates * i + c) (omega arith) ∙ ap (λ (n : ℕ). getD (p .points) n (pos 0)) there
+
+pub control-alone : (p : Path) (k c : ℕ) → c < coordinates → control (alone p k .points) c 0 ≡ control (p .points) c k
+unfolding control
+control-alone p k c h =
+    let start = rw (add-zero (degree * k)) at (point-alone p k c 0 h (omega arith)) in
+    rw (start, point-alone p k c 1 h (omega arith), point-alone p k c 2 h (omega arith), point-alone p k c 3 h (omega arith))
+
+-- ---- the lists of the segments
+
+entry-shifted : (F k : ℕ) (d : Drawing) → entry F k d ≡ shifted (2 ^ F * k) (entry F 0 d)
+unfolding entry shifted
+entry-shifted F k d =
+    let further : 2 ^ F * k + d .q ≡ 2 ^ F * 0 + d .q + 2 ^ F * k = omega arith in
+    rw further
+
+shown-shifted : (F k : ℕ) (ts : List Turn) → shownBy F k ts ≡ map (shifted (2 ^ F * k)) (shownBy F 0 ts)
+unfolding shownBy
+shown-shifted F k [] = refl
+shown-shifted F k (t ∷ ts) = by-operation (t .operation) (shown-shifted F k ts)
+  where
+    by-operation : (op : Operation) → shownBy F k ts ≡ map (shifted (2 ^ F * k)) (shownBy F 0 ts)
+        → shown F k op (t .drawing) ++ shownBy F k ts ≡ map (shifted (2 ^ F * k)) (shown F 0 op (t .drawing) ++ shownBy F 0 ts)
+    by-operation halve e = e
+    by-operation double e = e
+    by-operation step e = ap₂ _∷_ (entry-shifted F k _) e
+
+pub rest-shifted : (F : ℕ) (p : Path) (k : ℕ) (d : Drawing) → rest F p k d ≡ map (shifted (2 ^ F * k)) (rest F p 0 d)
+unfolding rest
+rest-shifted F p k d = shown-shifted F k (turns F (p .upper) (p .lower) d)
+
+first-alone : (p : Path) (k : ℕ) → first (alone p k .points) (p .level) 0 ≡ first (p .points) (p .level) k
+unfolding first
+first-alone p k = rw (control-alone p k 0 (omega arith), control-alone p k 1 (omega arith))
+
+-- at its place, a segment's list is its start and what is left from there on
+placed-whole : (F : ℕ) (p : Path) (k : ℕ)
+    → placed F p k ≡ entry F k (first (p .points) (p .level) k) ∷ rest F p k (first (p .points) (p .level) k)
+unfolding alone placed entries following rest
+placed-whole F p k =
+    let d = first (p .points) (p .level) k in
+    ap (map (shifted (2 ^ F * k))) (ap₂ _∷_ (ap (entry F 0) (first-alone p k)) (append-nil _ ∙ ap (rest F p 0) (first-alone p k)))
+    ∙ sym (ap₂ _∷_ (entry-shifted F k d) (rest-shifted F p k d))
+
+joins-following : (F : ℕ) (p : Path) (k m : ℕ) → joins F p k m ≡ following F p k m
+unfolding joins following
+joins-following F p k zero = refl
+joins-following F p k (suc m) = ap₂ _++_ (ap tail (placed-whole F p k)) (joins-following F p (k + 1) m)
+
+pub joined : (F : ℕ) (p : Path) (m : ℕ) → p .segments ≡ suc m → entries F p ≡ placed F p 0 ++ joins F p 1 m
+unfolding entries following
+joined F p m e = rw (placed-whole F p 0, joins-following F p 1 m, e)
+
+-- ---- a segment of an accepted path
+
+module _ (p : Path) (k : ℕ) (l : coordinates * (degree * k) + coordinates * (degree + 1) ≤ length (p .points)) where
+  length-alone : length (alone p k .points) ≡ coordinates * (degree + 1)
+  unfolding alone
+  length-alone =
+      length-take-le (coordinates * (degree + 1)) (drop (coordinates * (degree * k)) (p .points)) (rw length-drop (omega arith))
+
+  points-alone : arePoints (p .points) ≡ true → arePoints (alone p k .points) ≡ true
+  points-alone e = hold-points (alone p k .points) each
+    where
+      each : (i : ℕ) → i < length (alone p k .points) → isCoordinate (getD (alone p k .points) i (pos 0)) ≡ true
+      each i h =
+          let short : i < coordinates * (degree + 1) = rw length-alone at h in
+          rw (number-alone p k i short) (points-hold (p .points) e _ (omega arith))
+
+  chained-alone : areChained (p .points) ≡ true → areChained (alone p k .points) ≡ true
+  chained-alone e = hold-chained (alone p k .points) each
+    where
+      each : (i : ℕ) → coordinates + i < length (alone p k .points)
+          → areNeighbours (getD (alone p k .points) i (pos 0)) (getD (alone p k .points) (coordinates + i) (pos 0)) ≡ true
+      each i h =
+          let n : ℕ = coordinates * (degree * k) in
+          let short : coordinates + i < coordinates * (degree + 1) = rw length-alone at h in
+          let further : n + (coordinates + i) ≡ coordinates + (n + i) = omega arith in
+          rw (number-alone p k i (omega arith), number-alone p k (coordinates + i) short, further) (chained-hold (p .points) e (n + i) (omega arith))
+
+pub alone-accepted : (F : ℕ) (p : Path) (k : ℕ) → measureRefusal F p ≡ 0 → k < p .segments → measureRefusal F (alone p k) ≡ 0
+unfolding alone isSize
+alone-accepted F p k e h =
+    let t = passed F p e in
+    let l : coordinates * (degree * k) + coordinates * (degree + 1) ≤ length (p .points) = omega (arith, sized F p t .size) in
+    all-passed F (alone p k) (record {
+      size = rw (length-alone p k l);
+      points = points-alone p k l (t .points);
+      chained = chained-alone p k l (t .chained);
+      level = t .level;
+      limits = t .limits;
+    })

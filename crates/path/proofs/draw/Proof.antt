@@ -1,0 +1,58 @@
+-- What measuring answered decides: its refusal, then the room, and then the run fills the list.
+use mathlib.Core.Path.{sym, ap, _∙_}
+use borrow.Author.Needs.{needs}
+use Rattle.rules.specs.Rules.{finest}
+use Rattle.path.specs.declared.Drawn.{Drawn}
+use Rattle.path.proofs.Answers.{measured-accepted, drawn-refused, drawn-nine, drawn-filled}
+use Rattle.path.proofs.draw.Statement.{statement}
+use Rattle.path.proofs.draw.Tie as tie
+
+measure-requires : tie.Need-measure-requires
+measure-requires c κs = search needs
+
+returns : tie.Need-returns
+returns c = drawn-refused finest _ _ _ (c .before .before .measure .ensures) (c .if1 .taken)
+
+cast-if2 : tie.Need-cast-if2
+cast-if2 c = search needs
+
+mul-if2 : tie.Need-mul-if2
+mul-if2 c = search needs
+
+refuse-requires : tie.Need-refuse-requires
+refuse-requires c κs = search needs
+
+returns-2 : tie.Need-returns-2
+returns-2 c =
+    let a = c .before .before .before in
+    let d = drawn-nine finest _ _ _ (a .before .before .measure .ensures) (a .if1 .left) (c .before .if2 .taken) in
+    (c .refuse .ensures ∙ d .0, d .1)
+
+run-requires : tie.Need-run-requires
+run-requires c κs =
+    let a = c .before .before .before in
+    measured-accepted finest _ (ap (λ (m : Drawn). m .refusal) (sym (a .before .before .measure .ensures)) ∙ a .if1 .left)
+
+same-length : tie.Need-same-length
+same-length c = search needs
+
+returns-3 : tie.Need-returns-3
+returns-3 c =
+    let b = c .before .before .before in
+    let a = b .before .before in
+    let d = drawn-filled finest _ _ _ (a .before .before .measure .ensures) (a .if1 .left) (b .if2 .left) in
+    (d .0, c .before .run .ensures .1 ∙ d .1)
+
+pub draw-spec : {M : Type 1} → statement M
+draw-spec =
+    tie.close
+    (tie.spec
+    measure-requires
+    returns
+    cast-if2
+    mul-if2
+    refuse-requires
+    returns-2
+    run-requires
+    same-length
+    returns-3)

@@ -1,0 +1,32 @@
+-- The start is accepted, so that it begins.
+use mathlib.Core.Path.{ap, _∙_}
+use borrow.Author.Needs.{needs}
+use Rattle.rules.specs.Rules.{finest}
+use Rattle.engine.specs.declared.Moved.{Moved}
+use Rattle.engine.specs.Start.{started}
+use Rattle.engine.proofs.Accepted.{start-begins}
+use Rattle.path.specs.Path.{first}
+use Rattle.path.proofs.first_of.Statement.{statement}
+use Rattle.path.proofs.first_of.Tie as tie
+
+control-of-requires : tie.Need-control-of-requires
+control-of-requires c κs = search needs
+
+control-of-requires-2 : tie.Need-control-of-requires-2
+control-of-requires-2 c κs = search needs
+
+start-requires : tie.Need-start-requires
+start-requires c κs = search needs
+
+returns : tie.Need-returns
+unfolding first
+returns c =
+    let s = c .before .before .before .before in
+    let x = c .before .before .before .control-of .ensures in
+    let y = c .before .before .control-of2 .ensures in
+    ap (λ (m : Moved). m .drawing)
+    (c .before .start .ensures ∙ (λ i. started finest (x i) (y i) (s .args .level)) ∙ start-begins finest _ _ (s .args .level) (s .pre .accepted))
+
+pub first-of-spec : {M : Type 1} → statement M
+first-of-spec =
+    tie.close (tie.spec control-of-requires control-of-requires-2 start-requires returns)

@@ -1,0 +1,56 @@
+-- What drawing and measuring a path answer, and what drawing leaves in the lent list.
+use mathlib.Core.List.{List, [], _∷_, _++_}
+use Prim.Native.Nat.{ℕ, zero, suc, _*_}
+use lib.Dec.{leb}
+use lib.IntN.{ℤ}
+use lib.ListN.{length, drop}
+use Rattle.rules.specs.Rules.{unless}
+use Rattle.lists.specs.declared.Entry.{Entry}
+use Rattle.lists.specs.Entries.{entrySize, flat}
+use Rattle.lists.specs.Length.{lengthOf}
+use Rattle.path.specs.declared.Drawn.{Drawn}
+use Rattle.path.specs.Path.{Path, pathRefusal}
+use Rattle.path.specs.Entries.{entries}
+
+-- measuring: 14, 1, 2, 3, 4
+unfoldable pub measureRefusal : ℕ → Path → ℕ
+measureRefusal F p = pathRefusal F p 0
+
+-- drawing into a list of `room` numbers: also 9, where it is shorter than the whole answer
+unfoldable pub drawRefusal : ℕ → Path → ℕ → ℕ
+drawRefusal F p room = pathRefusal F p (unless (leb (entrySize * length (entries F p)) room) 9 0)
+
+-- the numbers by which a path may be refused, 0 for none; under the standard limits without 4
+abbrev pub measureTable : List ℕ
+measureTable = 0 ∷ 1 ∷ 2 ∷ 3 ∷ 4 ∷ 14 ∷ []
+
+abbrev pub drawTable : List ℕ
+drawTable = 0 ∷ 1 ∷ 2 ∷ 3 ∷ 4 ∷ 9 ∷ 14 ∷ []
+
+abbrev pub standardMeasureTable : List ℕ
+standardMeasureTable = 0 ∷ 1 ∷ 2 ∷ 3 ∷ 14 ∷ []
+
+abbrev pub standardDrawTable : List ℕ
+standardDrawTable = 0 ∷ 1 ∷ 2 ∷ 3 ∷ 9 ∷ 14 ∷ []
+
+abbrev pub refusedBy : ℕ → Drawn
+refusedBy k = record { refusal = k; points = 0; length = 0 }
+
+-- the number of points and the length; a refusal answers its number, with 0 for both
+abbrev pub answered : ℕ → List Entry → Drawn
+answered zero es = record { refusal = 0; points = length es; length = lengthOf es }
+answered (suc k) es = refusedBy (suc k)
+
+unfoldable pub measured : ℕ → Path → Drawn
+measured F p = answered (measureRefusal F p) (entries F p)
+
+unfoldable pub drawn : ℕ → Path → ℕ → Drawn
+drawn F p room = answered (drawRefusal F p room) (entries F p)
+
+-- the list afterwards: the numbers from its front on, and what stood after them; a refusal leaves it as found
+abbrev pub filled : ℕ → List ℤ → List ℤ → List ℤ
+filled zero numbers list = numbers ++ drop (length numbers) list
+filled (suc k) numbers list = list
+
+unfoldable pub written : ℕ → Path → List ℤ → List ℤ
+written F p list = filled (drawRefusal F p (length list)) (flat (entries F p)) list

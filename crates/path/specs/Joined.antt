@@ -1,0 +1,33 @@
+-- A path's list from the lists of its segments, each drawn as a path of its own: shifted, and joined without the starts that stand already.
+use mathlib.Core.List.{List, [], _++_, map, tail}
+use Prim.Native.Nat.{ℕ, zero, suc, _+_, _*_, _^_}
+use lib.IntN.{pos, _+ℤ_}
+use lib.ListN.{take, drop}
+use Rattle.rules.specs.Rules.{degree, coordinates}
+use Rattle.lists.specs.declared.Entry.{Entry}
+use Rattle.path.specs.Path.{Path}
+use Rattle.path.specs.Entries.{entries}
+
+-- segment k as a path: points 3k to 3k + 3, the same level and limits
+unfoldable pub alone : Path → ℕ → Path
+alone p k =
+    record {
+      points = take (coordinates * (degree + 1)) (drop (coordinates * (degree * k)) (p .points));
+      segments = 1;
+      level = p .level;
+      upper = p .upper;
+      lower = p .lower;
+    }
+
+-- an entry n positions further on
+unfoldable pub shifted : ℕ → Entry → Entry
+shifted n e = record { position = e .position +ℤ pos n; x = e .x; y = e .y }
+
+-- the list of segment k by itself, at its place on the path
+unfoldable pub placed : ℕ → Path → ℕ → List Entry
+placed F p k = map (shifted (2 ^ F * k)) (entries F (alone p k))
+
+-- m such lists from the k-th on, each without its first entry
+unfoldable pub joins : ℕ → Path → ℕ → ℕ → List Entry
+joins F p k zero = []
+joins F p k (suc m) = tail (placed F p k) ++ joins F p (k + 1) m

@@ -1,0 +1,8 @@
+pub mod Path
+pub mod Segment
+pub mod Entries
+pub mod Answer
+pub mod Tally
+pub mod Lawful
+pub mod Joined
+pub mod Listed

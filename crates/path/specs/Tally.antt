@@ -1,0 +1,43 @@
+-- What the drawer carries along a path: how many points there are so far, their length, and the last of them.
+use mathlib.Core.Path.{_≡_}
+use mathlib.Core.List.{List, [], _∷_}
+use Prim.Native.Nat.{ℕ, _+_, _*_, _≤_, _<_}
+use lib.IntN.{ℤ}
+use lib.ListN.{length}
+use Rattle.rules.specs.Rules.{finest, degree, coordinates, mostSegments}
+use Rattle.engine.specs.Start.{startRefusal}
+use Rattle.lists.specs.declared.Entry.{Entry}
+use Rattle.lists.specs.Length.{moveLength}
+use Rattle.path.specs.declared.Plan.{Plan}
+use Rattle.path.specs.declared.Tally.{Tally}
+use Rattle.path.specs.Path.{Path, path, control, first}
+use Rattle.path.specs.Entries.{entry, following}
+
+-- the path that a plan draws
+abbrev pub planned : List ℤ → Plan → Path
+planned points plan = path points (plan .segments) (plan .level) (plan .upper) (plan .lower)
+
+-- the start of segment k can be read, and is accepted
+pub record Ready (points : List ℤ) (level k : ℕ) : Type 0 where
+  pub few : k < mostSegments
+  pub inside : coordinates * (degree * k + degree) + 1 < length points
+  pub accepted : startRefusal finest (control points 0 k) (control points 1 k) level ≡ 0
+
+-- a tally of the start alone, and one with one more point
+unfoldable pub begun : Entry → Tally
+begun e = record { points = 1; length = 0; last = e }
+
+unfoldable pub added : Tally → Entry → Tally
+added t e = record { points = t .points + 1; length = t .length + moveLength (t .last) e; last = e }
+
+-- small enough that one point more fits
+pub record Small (t : Tally) : Type 0 where
+  pub few : t .points ≤ 1000000
+  pub short : t .length ≤ 1414 * t .points
+
+unfoldable pub addedAll : Tally → List Entry → Tally
+addedAll t [] = t
+addedAll t (e ∷ es) = addedAll (added t e) es
+
+unfoldable pub tally : ℕ → Path → Tally
+tally F p = addedAll (begun (entry F 0 (first (p .points) (p .level) 0))) (following F p 0 (p .segments))
