@@ -10,7 +10,7 @@ use lib.IntN.{ℤ, pos, negsuc}
 use lib.ListN.{length, replicate}
 use Rattle.numbers.proofs.Tests.{eqbℤs, eqbℤs→eq}
 use Rattle.numbers.proofs.Tables.{All, every, tested, all-append, all-map}
-use Rattle.rules.specs.Rules.{finest, isCoordinate, areNeighbours, isLevel, areLimits, isSize, arePoints, areBeside, areChained}
+use Rattle.rules.specs.Rules.{finest, isCoordinate, areNeighbours, isLevel, areLimits, isSegments, isSize, arePoints, areBeside, areChained}
 use Rattle.engine.specs.declared.Control.{Control}
 use Rattle.engine.specs.Curve.{curve}
 use Rattle.engine.specs.Registers.{startRegisters, turn}
@@ -151,7 +151,7 @@ all-listed : (ws : List Row) → T (every right ws) → All Holds (map draws ws)
 all-listed ws t = all-map Holds draws ws (tested Listed right right-listed ws t)
 
 pub starred : All Holds table
-unfolding table moving still drawn written measured drawRefusal measureRefusal pathRefusal isSize arePoints areChained areBeside isCoordinate
+unfolding table moving still drawn written measured drawRefusal measureRefusal pathRefusal isSegments isSize arePoints areChained areBeside isCoordinate
     areNeighbours isLevel areLimits entries following rest first control pointAt curve startRegisters turns turnsIn chosen wantsHalve
     wantsDouble increment doubledIncrement isAligned turned turn shownBy entry pixel flat lengthOf lengthFrom moveLength
 starred =

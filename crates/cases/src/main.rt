@@ -6,8 +6,6 @@ use engine::Moved;
 use engine::Registers;
 use lists::Found;
 use path::Drawn;
-ghost use mathlib.Core.Path.{_≡_};
-ghost use lib.IntN.{natAbs};
 
 const OUT: i32 = 1;
 
@@ -152,14 +150,5 @@ fn signed(label: &[u8], v: i32) {
     if v < 0 {
         io::write_all(OUT, b"-");
     }
-    io::print_decimal(OUT, magnitude(v));
-}
-
-fn magnitude(v: i32) -> u64
-    ensures { λ r. ⌜ r ≡ natAbs v ⌝ }
-{
-    if v < 0 {
-        return (0 - (v as i64)) as u64;
-    }
-    v as u64
+    io::print_decimal(OUT, words::magnitude(v));
 }

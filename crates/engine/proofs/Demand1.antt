@@ -4,6 +4,7 @@ use mathlib.Core.Bool.{Bool, true, false, cond, _&&_}
 use mathlib.Core.Option.{none}
 use Prim.Native.Nat.{ℕ, zero, suc, _^_}
 use lib.Dec.{ltb}
+use lib.IntN.{pos}
 use Rattle.rules.specs.Rules.{Among, areLimits, isLevel, standardUpper, standardLower}
 use Rattle.rules.proofs.Laws.{line-among, among}
 use Rattle.engine.specs.declared.Drawing.{Drawing}
@@ -80,7 +81,14 @@ pub start-refuses-as-tabled : (F : ℕ) (x y : Control) (n : ℕ) → Among (sta
 unfolding started
 start-refuses-as-tabled F x y n = rw begun-refusal (start-among F x y n)
 
-pub refused-start-gives-zeros : (F : ℕ) (x y : Control) (n : ℕ) → (started F x y n .refusal ≡ 0 → ⊥) → started F x y n .drawing ≡ nothingDrawn
+pub refused-start-gives-zeros : (F : ℕ) (x y : Control) (n : ℕ) → (started F x y n .refusal ≡ 0 → ⊥)
+    → started F x y n .drawing
+    ≡ record {
+      level = 0;
+      q = 0;
+      x = record { a = pos 0; b = pos 0; c = pos 0; d = pos 0 };
+      y = record { a = pos 0; b = pos 0; c = pos 0; d = pos 0 };
+    }
 unfolding started
 refused-start-gives-zeros F x y n = by-number (startRefusal F x y n) (firstDrawing x y n)
   where

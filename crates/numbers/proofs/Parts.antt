@@ -2,7 +2,7 @@
 -- From it the ring laws of ℤ that the kit's `lib.IntN` lacks.
 use mathlib.Core.Path.{_≡_, refl, ap, ap₂, _∙_}
 use mathlib.Core.Bool.{Bool, true, false, not, cond}
-use Prim.Native.Nat.{ℕ, zero, suc, _+_, _*_, _-_}
+use Prim.Native.Nat.{ℕ, zero, suc, _+_, _*_, _-_, _<_}
 use native.Mathlib.Omega.{arith}
 use lib.Dec.{T, ltb, ltb→lt, nltb→le}
 use lib.IntN.{ℤ, pos, negsuc, negℤ, subℕ, _+ℤ_, _-ℤ_, _*ℤ_, *ℤ-comm}
@@ -113,3 +113,13 @@ swap-middle p q r s =
 
 pub no-difference : (x y : ℤ) → x -ℤ y ≡ pos 0 → x ≡ y
 no-difference x y h = same x y (omega (arith, add-parts x (negℤ y), neg-parts y, ap up h, ap down h))
+
+-- ---- a number below 0 and its bits
+
+-- one that is lifted to 0 or above
+pub lifted : (n m : ℕ) → n < m → negsuc n +ℤ pos m ≡ pos (m - suc n)
+lifted n m h = same _ _ (omega (arith, add-parts (negsuc n) (pos m)))
+
+-- one that is lowered below 0
+pub lowered : (n m : ℕ) → n < m → pos n -ℤ pos m ≡ negsuc (m - suc n)
+lowered n m h = same _ _ (omega (arith, add-parts (pos n) (negℤ (pos m)), neg-parts (pos m)))

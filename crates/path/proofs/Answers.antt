@@ -11,7 +11,7 @@ use lib.ListN.{length}
 use lib.Seq.{sets}
 use borrow.Author.Tests.{lt-leb, le-leb}
 use Rattle.numbers.proofs.Buffers.{sets-front}
-use Rattle.rules.specs.Rules.{unless, isLevel, areLimits, isSize, arePoints, areChained}
+use Rattle.rules.specs.Rules.{unless, filled, isLevel, areLimits, isSize, arePoints, areChained}
 use Rattle.lists.specs.declared.Entry.{Entry}
 use Rattle.lists.specs.Entries.{entrySize, flat}
 use Rattle.lists.specs.Length.{lengthFrom, lengthOf}
@@ -20,7 +20,7 @@ use Rattle.path.specs.declared.Drawn.{Drawn}
 use Rattle.path.specs.declared.Tally.{Tally}
 use Rattle.path.specs.Path.{Path, pathRefusal, first}
 use Rattle.path.specs.Entries.{entry, following, entries}
-use Rattle.path.specs.Answer.{measureRefusal, drawRefusal, refusedBy, answered, measured, drawn, filled, written}
+use Rattle.path.specs.Answer.{measureRefusal, drawRefusal, refusedBy, answered, measured, drawn, written}
 use Rattle.path.specs.Tally.{begun, added, addedAll, tally}
 
 pub answered-refusal : (k : ℕ) (es : List Entry) → answered k es .refusal ≡ k

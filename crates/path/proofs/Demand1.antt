@@ -8,14 +8,14 @@ use lib.Dec.{leb}
 use lib.IntN.{ℤ}
 use lib.ListN.{length, drop}
 use borrow.Author.Tests.{leb-true}
-use Rattle.rules.specs.Rules.{unless, Among, isLevel, areLimits, standardUpper, standardLower, isSize, arePoints, areChained}
+use Rattle.rules.specs.Rules.{unless, filled, Among, isLevel, areLimits, standardUpper, standardLower, isSize, arePoints, areChained}
 use Rattle.rules.proofs.Laws.{rule-kept, line-among, among}
 use Rattle.lists.specs.declared.Entry.{Entry}
 use Rattle.lists.specs.Entries.{entrySize, flat}
 use Rattle.lists.specs.Length.{lengthOf}
 use Rattle.path.specs.Path.{Path, path, pathRefusal}
 use Rattle.path.specs.Entries.{entries}
-use Rattle.path.specs.Answer.{measureRefusal, drawRefusal, measureTable, drawTable, standardMeasureTable, standardDrawTable, refusedBy, answered, measured, drawn, filled, written}
+use Rattle.path.specs.Answer.{measureRefusal, drawRefusal, measureTable, drawTable, standardMeasureTable, standardDrawTable, answered, measured, drawn, written}
 use Rattle.path.proofs.Answers.{answered-refusal, path-kept, path-alike}
 
 -- ---- the tables
@@ -59,16 +59,16 @@ module _ (F : ℕ) (points : List ℤ) (segments level : ℕ) where
 
 -- ---- a refusal
 
-answered-zeros : (k : ℕ) (es : List Entry) → (answered k es .refusal ≡ 0 → ⊥) → answered k es ≡ refusedBy (answered k es .refusal)
+answered-zeros : (k : ℕ) (es : List Entry) → (answered k es .refusal ≡ 0 → ⊥) → answered k es ≡ record { refusal = answered k es .refusal; points = 0; length = 0 }
 answered-zeros zero es h = absurd (h refl)
 answered-zeros (suc k) es h = refl
 
-pub refused-measure-answers-zeros : (F : ℕ) (p : Path) → (measured F p .refusal ≡ 0 → ⊥) → measured F p ≡ refusedBy (measured F p .refusal)
+pub refused-measure-answers-zeros : (F : ℕ) (p : Path) → (measured F p .refusal ≡ 0 → ⊥) → measured F p ≡ record { refusal = measured F p .refusal; points = 0; length = 0 }
 unfolding measured
 refused-measure-answers-zeros F p = answered-zeros (measureRefusal F p) (entries F p)
 
 pub refused-draw-answers-zeros : (F : ℕ) (p : Path) (room : ℕ) → (drawn F p room .refusal ≡ 0 → ⊥)
-    → drawn F p room ≡ refusedBy (drawn F p room .refusal)
+    → drawn F p room ≡ record { refusal = drawn F p room .refusal; points = 0; length = 0 }
 unfolding drawn
 refused-draw-answers-zeros F p room = answered-zeros (drawRefusal F p room) (entries F p)
 

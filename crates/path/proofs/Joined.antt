@@ -8,7 +8,7 @@ use native.Mathlib.Omega.{arith}
 use lib.IntN.{pos}
 use lib.ListN.{length, getD, drop, length-drop}
 use lib.Seq.{length-take-le, getD-take, getD-drop}
-use Rattle.rules.specs.Rules.{isCoordinate, areNeighbours, degree, coordinates, isSize, arePoints, areChained}
+use Rattle.rules.specs.Rules.{isCoordinate, areNeighbours, degree, coordinates, isSegments, isSize, arePoints, areChained}
 use Rattle.rules.proofs.Every.{points-hold, hold-points, chained-hold, hold-chained}
 use Rattle.engine.specs.declared.Drawing.{Drawing}
 use Rattle.engine.specs.Registers.{Operation, halve, double, step}
@@ -111,7 +111,7 @@ module _ (p : Path) (k : ℕ) (l : coordinates * (degree * k) + coordinates * (d
           rw (number-alone p k i (omega arith), number-alone p k (coordinates + i) short, further) (chained-hold (p .points) e (n + i) (omega arith))
 
 pub alone-accepted : (F : ℕ) (p : Path) (k : ℕ) → measureRefusal F p ≡ 0 → k < p .segments → measureRefusal F (alone p k) ≡ 0
-unfolding alone isSize
+unfolding alone isSize isSegments
 alone-accepted F p k e h =
     let t = passed F p e in
     let l : coordinates * (degree * k) + coordinates * (degree + 1) ≤ length (p .points) = omega (arith, sized F p t .size) in

@@ -1,10 +1,10 @@
 -- What drawing and measuring a path answer, and what drawing leaves in the lent list.
-use mathlib.Core.List.{List, [], _∷_, _++_}
+use mathlib.Core.List.{List, [], _∷_}
 use Prim.Native.Nat.{ℕ, zero, suc, _*_}
 use lib.Dec.{leb}
 use lib.IntN.{ℤ}
-use lib.ListN.{length, drop}
-use Rattle.rules.specs.Rules.{unless}
+use lib.ListN.{length}
+use Rattle.rules.specs.Rules.{unless, filled}
 use Rattle.lists.specs.declared.Entry.{Entry}
 use Rattle.lists.specs.Entries.{entrySize, flat}
 use Rattle.lists.specs.Length.{lengthOf}
@@ -47,10 +47,6 @@ measured F p = answered (measureRefusal F p) (entries F p)
 unfoldable pub drawn : ℕ → Path → ℕ → Drawn
 drawn F p room = answered (drawRefusal F p room) (entries F p)
 
--- the list afterwards: the numbers from its front on, and what stood after them; a refusal leaves it as found
-abbrev pub filled : ℕ → List ℤ → List ℤ → List ℤ
-filled zero numbers list = numbers ++ drop (length numbers) list
-filled (suc k) numbers list = list
-
+-- the list afterwards
 unfoldable pub written : ℕ → Path → List ℤ → List ℤ
 written F p list = filled (drawRefusal F p (length list)) (flat (entries F p)) list

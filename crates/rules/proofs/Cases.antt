@@ -6,7 +6,7 @@ use Prim.Native.Nat.{ℕ}
 use lib.Dec.{T}
 use lib.IntN.{ℤ, pos, negsuc}
 use Rattle.numbers.proofs.Tables.{All, tested}
-use Rattle.rules.specs.Rules.{finest, isCoordinate, areNeighbours, isLevel, areLimits, isSize, arePoints, areBeside, areChained}
+use Rattle.rules.specs.Rules.{finest, isCoordinate, areNeighbours, isLevel, areLimits, isSegments, isSize, arePoints, areBeside, areChained}
 
 pub data Rule : Type 0 where
   coordinate : ℤ → Rule
@@ -97,5 +97,5 @@ abbrev right : Row → Bool
 right w = agree (keeps (w .rule)) (w .kept)
 
 pub cases : All Holds table
-unfolding table isCoordinate areNeighbours isLevel areLimits isSize arePoints areBeside areChained
+unfolding table isCoordinate areNeighbours isLevel areLimits isSegments isSize arePoints areBeside areChained
 cases = tested Holds right (λ w t. agreed (keeps (w .rule)) (w .kept) t) table tt

@@ -2,7 +2,7 @@
 use mathlib.Core.Path.{_≡_, refl, ap₂}
 use mathlib.Core.Bool.{Bool, true, false, _&&_}
 use mathlib.Core.List.{List}
-use Prim.Native.Nat.{ℕ, suc, _+_, _*_, _≤_}
+use Prim.Native.Nat.{ℕ, zero, suc, _≤_}
 use native.Mathlib.Omega.{arith}
 use lib.Dec.{T, leb, eqb}
 use lib.IntN.{ℤ, pos, negsuc, _-ℤ_}
@@ -11,7 +11,7 @@ use borrow.Author.Tests.{leb-true, eqb-true, le-leb, eq-eqb}
 use Rattle.numbers.proofs.Order.{leZ-true, le-leZ}
 use Rattle.numbers.proofs.Size.{Size}
 use Rattle.numbers.proofs.Tests.{and-true, and-three}
-use Rattle.rules.specs.Rules.{unless, isAmong, Among, isCoordinate, areNeighbours, reach, areLimits, degree, coordinates, mostSegments, isSize}
+use Rattle.rules.specs.Rules.{unless, firstOf, isAmong, Among, isCoordinate, areNeighbours, reach, areLimits, mostSegments, isSegments, pointNumbers, isSize}
 
 -- ---- tables of refusals
 
@@ -19,6 +19,23 @@ use Rattle.rules.specs.Rules.{unless, isAmong, Among, isCoordinate, areN
 pub rule-kept : (rule : Bool) (k rest : ℕ) → unless rule (suc k) rest ≡ 0 → (rule ≡ true) × (rest ≡ 0)
 rule-kept true k rest e = (refl, e)
 rule-kept false k rest e = let no : ⊥ = omega arith in absurd no
+
+-- two tables one after the other
+pub first-kept : (k rest : ℕ) → firstOf k rest ≡ 0 → (k ≡ 0) × (rest ≡ 0)
+first-kept zero rest e = (refl, e)
+first-kept (suc k) rest e = let no : ⊥ = omega arith in absurd no
+
+pub first-on : (k rest : ℕ) → k ≡ 0 → firstOf k rest ≡ rest
+first-on zero rest e = refl
+first-on (suc k) rest e = let no : ⊥ = omega arith in absurd no
+
+pub first-stop : (k rest : ℕ) → (k ≡ 0 → ⊥) → firstOf k rest ≡ k
+first-stop zero rest h = absurd (h refl)
+first-stop (suc k) rest h = refl
+
+pub first-among : (k rest : ℕ) {table : List ℕ} → Among k table → Among rest table → Among (firstOf k rest) table
+first-among zero rest h t = t
+first-among (suc k) rest h t = h
 
 -- each line's number is in the table
 pub line-among : (rule : Bool) {k rest : ℕ} {table : List ℕ} → Among k table → Among rest table → Among (unless rule k rest) table
@@ -69,16 +86,15 @@ hold-limits {upper} {lower} l =
 pub record Sized (S numbers : ℕ) : Type 0 where
   pub some : 1 ≤ S
   pub most : S ≤ mostSegments
-  pub size : numbers ≡ coordinates * (degree * S + 1)
+  pub size : numbers ≡ pointNumbers S
 
 pub size-holds : (S numbers : ℕ) → isSize S numbers ≡ true → Sized S numbers
-unfolding isSize
+unfolding isSize isSegments
 size-holds S numbers e =
-    let n = coordinates * (degree * S + 1) in
-    let t = and-three (leb 1 S) (leb S mostSegments) (eqb numbers n) e in
-    record { some = leb-true 1 S (t .0); most = leb-true S mostSegments (t .1); size = eqb-true numbers n (t .2) }
+    let t = and-three (leb 1 S) (leb S mostSegments) (eqb numbers (pointNumbers S)) e in
+    record { some = leb-true 1 S (t .0); most = leb-true S mostSegments (t .1); size = eqb-true numbers (pointNumbers S) (t .2) }
 
 pub holds-size : {S numbers : ℕ} → Sized S numbers → isSize S numbers ≡ true
-unfolding isSize
+unfolding isSize isSegments
 holds-size {S} {numbers} s =
-    ap₂ _&&_ (ap₂ _&&_ (le-leb 1 S (s .some)) (le-leb S mostSegments (s .most))) (eq-eqb numbers (coordinates * (degree * S + 1)) (s .size))
+    ap₂ _&&_ (ap₂ _&&_ (le-leb 1 S (s .some)) (le-leb S mostSegments (s .most))) (eq-eqb numbers (pointNumbers S) (s .size))

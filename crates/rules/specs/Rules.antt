@@ -1,15 +1,25 @@
 -- What document 01 accepts, by its refusal numbers 1 to 4 and 14, and how a table of refusals is read.
 use mathlib.Core.Bool.{Bool, true, false, cond, _&&_, _||_}
-use mathlib.Core.List.{List, [], _∷_}
-use Prim.Native.Nat.{ℕ, _+_, _*_}
+use mathlib.Core.List.{List, [], _∷_, _++_}
+use Prim.Native.Nat.{ℕ, zero, suc, _+_, _*_}
 use lib.Dec.{T, leb, eqb}
 use lib.IntN.{ℤ, pos, negsuc, natAbs, _-ℤ_}
-use lib.ListN.{drop}
+use lib.ListN.{length, drop}
 use lib.Signed.{leZ}
 
 -- One line of a table of refusals: the number where the rule is broken, and else what the lines after it say. 0 is no refusal.
 abbrev pub unless : Bool → ℕ → ℕ → ℕ
 unless rule number rest = cond rule rest number
+
+-- The first of two refusals, where the second's tests come after all of the first's.
+abbrev pub firstOf : ℕ → ℕ → ℕ
+firstOf zero rest = rest
+firstOf (suc k) rest = suc k
+
+-- A lent buffer afterwards: the values from its front on, and then what stood after them; a refusal leaves it as found.
+abbrev pub filled : {A : Type 0} → ℕ → List A → List A → List A
+filled zero values buffer = values ++ drop (length values) buffer
+filled (suc k) values buffer = buffer
 
 -- k is one of the numbers of a table
 abbrev pub isAmong : ℕ → List ℕ → Bool
@@ -59,8 +69,15 @@ coordinates = 2
 abbrev pub mostSegments : ℕ
 mostSegments = 64
 
+unfoldable pub isSegments : ℕ → Bool
+isSegments S = leb 1 S && leb S mostSegments
+
+-- the numbers of a path's points
+abbrev pub pointNumbers : ℕ → ℕ
+pointNumbers S = coordinates * (degree * S + 1)
+
 unfoldable pub isSize : ℕ → ℕ → Bool
-isSize S numbers = leb 1 S && leb S mostSegments && eqb numbers (coordinates * (degree * S + 1))
+isSize S numbers = isSegments S && eqb numbers (pointNumbers S)
 
 -- ---- 1 and 2 over the points of a whole path, as numbers: x0, y0, x1, y1, ..
 

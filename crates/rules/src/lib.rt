@@ -1,6 +1,6 @@
 // The rules that every room shares: refusals 1 to 4 and 14 of document 01, as tests of any numbers.
 ghost use mathlib.Core.Path.{_≡_};
-ghost use Rattle.rules.specs.Rules.{finest, isCoordinate, areNeighbours, isLevel, areLimits, isSize, arePoints, areChained};
+ghost use Rattle.rules.specs.Rules.{finest, isCoordinate, areNeighbours, isLevel, areLimits, isSegments, isSize, arePoints, areChained};
 
 // The finest level: positions count 2^FINEST-ths of the parameter.
 pub const FINEST: u32 = 11;
@@ -39,17 +39,21 @@ pub fn limits(upper: u32, lower: u32) -> bool
     (1 <= upper) & (upper <= 65536) & (lower <= upper)
 }
 
-// 14 where it fails: segments is looked at first, so that no product wraps.
-pub fn size(segments: u32, numbers: usize) -> bool
-    ensures { λ r. ⌜ r ≡ isSize segments numbers ⌝ }
+// 14 where it fails.
+pub fn segments(count: u32) -> bool
+    ensures { λ r. ⌜ r ≡ isSegments count ⌝ }
 {
-    if segments < 1 {
+    (1 <= count) & (count <= 64)
+}
+
+// 14 where it fails: the segments are looked at first, so that no product wraps.
+pub fn size(count: u32, numbers: usize) -> bool
+    ensures { λ r. ⌜ r ≡ isSize count numbers ⌝ }
+{
+    if !segments(count) {
         return false;
     }
-    if 64 < segments {
-        return false;
-    }
-    numbers == 2 * (3 * segments as usize + 1)
+    numbers == 2 * (3 * count as usize + 1)
 }
 
 // 1 over a whole path's points where it fails.

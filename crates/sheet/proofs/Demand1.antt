@@ -1,0 +1,102 @@
+-- Demand 1 for sheets: a refusal is one of the tabled numbers, answers 0 for the count and leaves the lent buffer as found.
+use mathlib.Core.Path.{_≡_}
+use mathlib.Core.Bool.{Bool}
+use mathlib.Core.List.{List}
+use Prim.Native.Nat.{ℕ, zero, suc, _+_}
+use lib.Dec.{leb, eqb}
+use lib.IntN.{ℤ}
+use lib.ListN.{length}
+use Rattle.rules.specs.Rules.{Among, finest, isLevel, areLimits, isSegments, arePoints, areChained}
+use Rattle.rules.proofs.Laws.{first-among, line-among, among}
+use Rattle.sheet.specs.Bytes.{u32At}
+use Rattle.sheet.specs.Sheet.{Target, headSize, sheetBytes, sheetNumbers, mostPaths, mostBytes}
+use Rattle.sheet.specs.Reading.{
+  recordEnd,
+  sheetAt,
+  pointsRefusal,
+  pathRules,
+  isOffset,
+  bodyRefusal,
+  recordRefusal,
+  recordsRefusal,
+  sheetRefusal,
+  readRefusal,
+}
+use Rattle.sheet.specs.Writing.{numberAt, pathEnd, sheetOf, pathRefusal, pathsRefusal, listRefusal, writeRefusal}
+use Rattle.sheet.specs.Answer.{readTable, writeTable, answered, readAnswer, numbersRead, writeAnswer, bytesWritten}
+use Rattle.sheet.proofs.Room.{answered-refusal, refused-answer, refused-buffer, roomRefusal}
+
+-- ---- the tables
+
+-- 14, 3, 1 and 2 are in both
+path-among : {short : ℕ} (begins ends : Bool) (p : Target) {table : List ℕ} → Among short table → Among 14 table → Among 3 table → Among 1 table
+    → Among 2 table → Among 0 table → Among (pathRules short begins ends p) table
+unfolding pathRules pointsRefusal
+path-among begins ends p short segments level points chained none =
+    line-among begins short
+    (line-among (isSegments (p .segments)) segments
+    (line-among (isLevel finest (p .level)) level
+    (line-among ends short (line-among (arePoints (p .points)) points (line-among (areChained (p .points)) chained none)))))
+
+room-among : (k count room : ℕ) {table : List ℕ} → Among k table → Among 9 table → Among 0 table
+    → Among (answered (roomRefusal k count room) count .refusal) table
+room-among k count room refusal nine none = rw answered-refusal (first-among k _ refusal (line-among (leb count room) nine none))
+
+records-among : (b : List ℕ) (n k p : ℕ) → Among (recordsRefusal b n k p) readTable
+unfolding recordsRefusal recordRefusal bodyRefusal
+records-among b zero k p = line-among (eqb p (length b)) (among tt) (among tt)
+records-among b (suc n) k p =
+    let path = path-among _ _ _ (among tt) (among tt) (among tt) (among tt) (among tt) (among tt) in
+    first-among (recordRefusal b k p) _ (line-among (isOffset b k p) (among tt) path) (records-among b n (k + 1) (recordEnd b p))
+
+paths-among : (l : List ℤ) (n i : ℕ) → Among (pathsRefusal l n i) writeTable
+unfolding pathsRefusal pathRefusal
+paths-among l zero i = line-among (eqb i (length l)) (among tt) (among tt)
+paths-among l (suc n) i =
+    let path = path-among _ _ _ (among tt) (among tt) (among tt) (among tt) (among tt) (among tt) in
+    first-among (pathRefusal l i) _ path (paths-among l n (pathEnd l i))
+
+pub read-refuses-as-tabled : (b : List ℕ) (room : ℕ) → Among (readAnswer b room .refusal) readTable
+unfolding readAnswer readRefusal sheetRefusal
+read-refuses-as-tabled b room =
+    let N = u32At b 0 in
+    room-among (sheetRefusal b) _ room
+    (line-among (leb 12 (length b)) (among tt)
+    (line-among (leb (length b) mostBytes) (among tt)
+    (line-among (leb N mostPaths) (among tt)
+    (line-among (leb (headSize N) (length b)) (among tt)
+    (line-among (areLimits (u32At b 4) (u32At b 8)) (among tt) (records-among b N 0 (headSize N)))))))
+    (among tt) (among tt)
+
+pub write-refuses-as-tabled : (l : List ℤ) (room : ℕ) → Among (writeAnswer l room .refusal) writeTable
+unfolding writeAnswer writeRefusal listRefusal
+write-refuses-as-tabled l room =
+    let fits = leb (length (sheetBytes (sheetOf l))) mostBytes in
+    room-among (listRefusal l) _ room
+    (line-among (leb 3 (length l)) (among tt)
+    (line-among (leb (numberAt l 0) mostPaths) (among tt)
+    (line-among (areLimits (numberAt l 1) (numberAt l 2)) (among tt)
+    (first-among (pathsRefusal l (numberAt l 0) 3) _ (paths-among l (numberAt l 0) 3) (line-among fits (among tt) (among tt))))))
+    (among tt) (among tt)
+
+-- ---- a refusal
+
+pub refused-read-answers-zero : (b : List ℕ) (room : ℕ) → (readAnswer b room .refusal ≡ 0 → ⊥)
+    → readAnswer b room ≡ record { refusal = readAnswer b room .refusal; count = 0 }
+unfolding readAnswer
+refused-read-answers-zero b room h = rw answered-refusal (refused-answer _ _ (rw answered-refusal at h))
+
+pub refused-write-answers-zero : (l : List ℤ) (room : ℕ) → (writeAnswer l room .refusal ≡ 0 → ⊥)
+    → writeAnswer l room ≡ record { refusal = writeAnswer l room .refusal; count = 0 }
+unfolding writeAnswer
+refused-write-answers-zero l room h = rw answered-refusal (refused-answer _ _ (rw answered-refusal at h))
+
+pub refused-read-changes-nothing : (b : List ℕ) (numbers : List ℤ) → (readAnswer b (length numbers) .refusal ≡ 0 → ⊥)
+    → numbersRead b numbers ≡ numbers
+unfolding readAnswer numbersRead
+refused-read-changes-nothing b numbers h = refused-buffer _ (sheetNumbers (sheetAt b)) numbers (rw answered-refusal at h)
+
+pub refused-write-changes-nothing : (l : List ℤ) (sheet : List ℕ) → (writeAnswer l (length sheet) .refusal ≡ 0 → ⊥)
+    → bytesWritten l sheet ≡ sheet
+unfolding writeAnswer bytesWritten
+refused-write-changes-nothing l sheet h = refused-buffer _ (sheetBytes (sheetOf l)) sheet (rw answered-refusal at h)

@@ -1,0 +1,14 @@
+pub mod Bytes
+pub mod Sheets
+pub mod PathRules
+pub mod Reading
+pub mod ReadsBack
+pub mod ReadsOnly
+pub mod Writing
+pub mod WritesBack
+pub mod WritesOnly
+pub mod Room
+pub mod RoundTrips
+pub mod Demand1
+pub mod Refusals
+pub mod Example

@@ -1,0 +1,148 @@
+-- The order of the refusals: each number where all tests before it are kept, whatever comes after. The order inside one path is in PathRules;
+-- that one record or path comes before the next, and all before 16 or 17, is `records-stop`, `records-left` of Reading and `paths-stop`,
+-- `paths-left` of Writing.
+use mathlib.Core.Path.{_≡_}
+use mathlib.Core.Bool.{true, false}
+use mathlib.Core.List.{List}
+use Prim.Native.Nat.{ℕ, _+_, _*_, _≤_, _<_}
+use native.Mathlib.Omega.{arith}
+use borrow.Author.Tests.{le-leb, lt-leb, eq-eqb, ne-eqb}
+use lib.IntN.{ℤ}
+use lib.ListN.{length}
+use Rattle.rules.specs.Rules.{finest, isLevel, areLimits, isSegments}
+use Rattle.rules.proofs.Laws.{first-stop}
+use Rattle.sheet.specs.Bytes.{u16At, u32At}
+use Rattle.sheet.specs.Sheet.{headSize, sheetBytes, sheetNumbers, mostPaths, mostBytes}
+use Rattle.sheet.specs.Reading.{recordAt, recordEnd, sheetAt, isOffset, bodyRefusal, recordRefusal, recordsRefusal, sheetRefusal, readRefusal}
+use Rattle.sheet.specs.Writing.{numberAt, pathAt, pathEnd, sheetOf, pathRefusal, pathsRefusal, listRefusal, writeRefusal}
+use Rattle.sheet.specs.Answer.{refusedBy, readAnswer, writeAnswer}
+use Rattle.sheet.proofs.PathRules.{refuses-no-head, refuses-14, refuses-3, refuses-cut}
+use Rattle.sheet.proofs.Room.{room-short, room-refused}
+
+-- ---- reading: 11, 12, 4, the records, 9
+
+module _ (b : List ℕ) where
+  pub sheet-refuses-11-under : length b < 12 → sheetRefusal b ≡ 11
+  unfolding sheetRefusal
+  sheet-refuses-11-under h = rw (lt-leb 12 (length b) h)
+
+  pub sheet-refuses-11-over : mostBytes < length b → sheetRefusal b ≡ 11
+  unfolding sheetRefusal
+  sheet-refuses-11-over h = rw (le-leb 12 (length b) (omega arith), lt-leb (length b) mostBytes h)
+
+  module _ (least : 12 ≤ length b) (most : length b ≤ mostBytes) where
+    pub sheet-refuses-12-count : mostPaths < u32At b 0 → sheetRefusal b ≡ 12
+    unfolding sheetRefusal
+    sheet-refuses-12-count h = rw (le-leb _ _ least, le-leb _ _ most, lt-leb (u32At b 0) mostPaths h)
+
+    module _ (few : u32At b 0 ≤ mostPaths) where
+      pub sheet-refuses-12-offsets : length b < headSize (u32At b 0) → sheetRefusal b ≡ 12
+      unfolding sheetRefusal
+      sheet-refuses-12-offsets h = rw (le-leb _ _ least, le-leb _ _ most, le-leb _ _ few, lt-leb (headSize (u32At b 0)) (length b) h)
+
+      module _ (offsets : headSize (u32At b 0) ≤ length b) where
+        pub sheet-refuses-4 : areLimits (u32At b 4) (u32At b 8) ≡ false → sheetRefusal b ≡ 4
+        unfolding sheetRefusal
+        sheet-refuses-4 e = rw (le-leb _ _ least, le-leb _ _ most, le-leb _ _ few, le-leb _ _ offsets, e)
+
+        pub sheet-refuses-by-records : areLimits (u32At b 4) (u32At b 8) ≡ true
+            → sheetRefusal b ≡ recordsRefusal b (u32At b 0) 0 (headSize (u32At b 0))
+        unfolding sheetRefusal
+        sheet-refuses-by-records e = rw (le-leb _ _ least, le-leb _ _ most, le-leb _ _ few, le-leb _ _ offsets, e)
+
+-- record k, at p: 13 whatever it holds, then the rules of a path
+module _ (b : List ℕ) (k p : ℕ) where
+  pub record-refuses-13 : (u32At b (12 + 4 * k) ≡ p → ⊥) → recordRefusal b k p ≡ 13
+  unfolding recordRefusal isOffset
+  record-refuses-13 h = rw (ne-eqb _ p h)
+
+  pub record-refuses-by-body : u32At b (12 + 4 * k) ≡ p → recordRefusal b k p ≡ bodyRefusal b p
+  unfolding recordRefusal isOffset
+  record-refuses-by-body e = rw (eq-eqb _ p e)
+
+-- the rules of a record at p: 15 for its first four bytes, 14, 3, 15 for its points
+module _ (b : List ℕ) (p : ℕ) where
+  pub body-refuses-15-head : length b < p + 4 → bodyRefusal b p ≡ 15
+  unfolding bodyRefusal
+  body-refuses-15-head h = refuses-no-head 15 _ _ (recordAt b p) (lt-leb (p + 4) (length b) h)
+
+  module _ (head : p + 4 ≤ length b) where
+    pub body-refuses-14 : isSegments (u16At b p) ≡ false → bodyRefusal b p ≡ 14
+    unfolding bodyRefusal recordAt
+    body-refuses-14 e = refuses-14 15 _ _ (recordAt b p) (le-leb _ _ head) e
+
+    module _ (segments : isSegments (u16At b p) ≡ true) where
+      pub body-refuses-3 : isLevel finest (u16At b (p + 2)) ≡ false → bodyRefusal b p ≡ 3
+      unfolding bodyRefusal recordAt
+      body-refuses-3 e = refuses-3 15 _ _ (recordAt b p) (le-leb _ _ head) segments e
+
+      pub body-refuses-15-points : isLevel finest (u16At b (p + 2)) ≡ true → length b < recordEnd b p → bodyRefusal b p ≡ 15
+      unfolding bodyRefusal recordAt
+      body-refuses-15-points level h =
+          refuses-cut 15 _ _ (recordAt b p) (le-leb _ _ head) segments level (lt-leb (recordEnd b p) (length b) h)
+
+module _ (b : List ℕ) (room : ℕ) where
+  pub read-refuses-by-sheet : (sheetRefusal b ≡ 0 → ⊥) → readAnswer b room ≡ refusedBy (sheetRefusal b)
+  unfolding readAnswer readRefusal
+  read-refuses-by-sheet h = room-refused (sheetRefusal b) (length (sheetNumbers (sheetAt b))) room h
+
+  pub read-refuses-9 : sheetRefusal b ≡ 0 → room < length (sheetNumbers (sheetAt b)) → readAnswer b room ≡ refusedBy 9
+  unfolding readAnswer readRefusal
+  read-refuses-9 e h = room-short (sheetRefusal b) (length (sheetNumbers (sheetAt b))) room e h
+
+-- ---- writing: 17, 12, 4, the paths, 11, 9
+
+module _ (l : List ℤ) where
+  pub list-refuses-17 : length l < 3 → listRefusal l ≡ 17
+  unfolding listRefusal
+  list-refuses-17 h = rw (lt-leb 3 (length l) h)
+
+  module _ (least : 3 ≤ length l) where
+    pub list-refuses-12 : mostPaths < numberAt l 0 → listRefusal l ≡ 12
+    unfolding listRefusal
+    list-refuses-12 h = rw (le-leb _ _ least, lt-leb (numberAt l 0) mostPaths h)
+
+    module _ (few : numberAt l 0 ≤ mostPaths) where
+      pub list-refuses-4 : areLimits (numberAt l 1) (numberAt l 2) ≡ false → listRefusal l ≡ 4
+      unfolding listRefusal
+      list-refuses-4 e = rw (le-leb _ _ least, le-leb _ _ few, e)
+
+      module _ (limits : areLimits (numberAt l 1) (numberAt l 2) ≡ true) where
+        -- numbers left over too: they are refused after the last path
+        pub list-refuses-by-paths : (pathsRefusal l (numberAt l 0) 3 ≡ 0 → ⊥) → listRefusal l ≡ pathsRefusal l (numberAt l 0) 3
+        unfolding listRefusal
+        list-refuses-by-paths h = rw (le-leb _ _ least, le-leb _ _ few, limits) (first-stop (pathsRefusal l (numberAt l 0) 3) _ h)
+
+        pub list-refuses-11 : pathsRefusal l (numberAt l 0) 3 ≡ 0 → mostBytes < length (sheetBytes (sheetOf l)) → listRefusal l ≡ 11
+        unfolding listRefusal
+        list-refuses-11 e h = rw (le-leb _ _ least, le-leb _ _ few, limits, e, lt-leb (length (sheetBytes (sheetOf l))) mostBytes h)
+
+-- the rules of a path at i: 17 for its first two numbers, 14, 3, 17 for its points
+module _ (l : List ℤ) (i : ℕ) where
+  pub path-refuses-17-head : length l < i + 2 → pathRefusal l i ≡ 17
+  unfolding pathRefusal
+  path-refuses-17-head h = refuses-no-head 17 _ _ (pathAt l i) (lt-leb (i + 2) (length l) h)
+
+  module _ (head : i + 2 ≤ length l) where
+    pub path-refuses-14 : isSegments (numberAt l i) ≡ false → pathRefusal l i ≡ 14
+    unfolding pathRefusal pathAt
+    path-refuses-14 e = refuses-14 17 _ _ (pathAt l i) (le-leb _ _ head) e
+
+    module _ (segments : isSegments (numberAt l i) ≡ true) where
+      pub path-refuses-3 : isLevel finest (numberAt l (i + 1)) ≡ false → pathRefusal l i ≡ 3
+      unfolding pathRefusal pathAt
+      path-refuses-3 e = refuses-3 17 _ _ (pathAt l i) (le-leb _ _ head) segments e
+
+      pub path-refuses-17-points : isLevel finest (numberAt l (i + 1)) ≡ true → length l < pathEnd l i → pathRefusal l i ≡ 17
+      unfolding pathRefusal pathAt
+      path-refuses-17-points level h =
+          refuses-cut 17 _ _ (pathAt l i) (le-leb _ _ head) segments level (lt-leb (pathEnd l i) (length l) h)
+
+module _ (l : List ℤ) (room : ℕ) where
+  pub write-refuses-by-list : (listRefusal l ≡ 0 → ⊥) → writeAnswer l room ≡ refusedBy (listRefusal l)
+  unfolding writeAnswer writeRefusal
+  write-refuses-by-list h = room-refused (listRefusal l) (length (sheetBytes (sheetOf l))) room h
+
+  pub write-refuses-9 : listRefusal l ≡ 0 → room < length (sheetBytes (sheetOf l)) → writeAnswer l room ≡ refusedBy 9
+  unfolding writeAnswer writeRefusal
+  write-refuses-9 e h = room-short (listRefusal l) (length (sheetBytes (sheetOf l))) room e h

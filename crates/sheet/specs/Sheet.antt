@@ -1,0 +1,76 @@
+-- The sheet by its parts, its bytes and its number list, and which sheets are right.
+use mathlib.Core.Path.{_≡_}
+use mathlib.Core.Bool.{true}
+use mathlib.Core.List.{List, [], _∷_, _++_}
+use Prim.Native.Nat.{ℕ, _+_, _*_, _≤_}
+use lib.IntN.{ℤ, pos}
+use lib.ListN.{length}
+use Rattle.numbers.proofs.Tables.{All}
+use Rattle.rules.specs.Rules.{finest, isLevel, areLimits, isSize, arePoints, areChained}
+use Rattle.sheet.specs.Bytes.{le16, le32, valueBytes}
+
+-- one path of a sheet; points: x0, y0, x1, y1, ..
+pub record Target : Type 0 where
+  pub segments : ℕ
+  pub level : ℕ
+  pub points : List ℤ
+
+pub record Sheet : Type 0 where
+  pub upper : ℕ
+  pub lower : ℕ
+  pub paths : List Target
+
+-- ---- its bytes: header, offsets, records
+
+-- count, upper, lower and N offsets
+abbrev pub headSize : ℕ → ℕ
+headSize N = 12 + 4 * N
+
+-- segments, start level, and x and y of each point
+unfoldable pub recordBytes : Target → List ℕ
+recordBytes p = le16 (p .segments) ++ (le16 (p .level) ++ valueBytes (p .points))
+
+unfoldable pub records : List Target → List ℕ
+records [] = []
+records (p ∷ ps) = recordBytes p ++ records ps
+
+-- the first record stands at `place`, each next where the one before ends
+unfoldable pub offsets : ℕ → List Target → List ℕ
+offsets place [] = []
+offsets place (p ∷ ps) = le32 place ++ offsets (place + length (recordBytes p)) ps
+
+unfoldable pub sheetBytes : Sheet → List ℕ
+sheetBytes s =
+    let N = length (s .paths) in
+    le32 N ++ (le32 (s .upper) ++ (le32 (s .lower) ++ (offsets (headSize N) (s .paths) ++ records (s .paths))))
+
+-- ---- its number list
+
+unfoldable pub pathNumbers : List Target → List ℤ
+pathNumbers [] = []
+pathNumbers (p ∷ ps) = pos (p .segments) ∷ pos (p .level) ∷ (p .points ++ pathNumbers ps)
+
+unfoldable pub sheetNumbers : Sheet → List ℤ
+sheetNumbers s = pos (length (s .paths)) ∷ pos (s .upper) ∷ pos (s .lower) ∷ pathNumbers (s .paths)
+
+-- ---- right sheets
+
+-- every rule of a path but for the limits, which are the sheet's
+pub record RightPath (p : Target) : Type 0 where
+  pub size : isSize (p .segments) (length (p .points)) ≡ true
+  pub level : isLevel finest (p .level) ≡ true
+  pub points : arePoints (p .points) ≡ true
+  pub chained : areChained (p .points) ≡ true
+
+pub record Right (s : Sheet) : Type 0 where
+  pub few : length (s .paths) ≤ 1024
+  pub limits : areLimits (s .upper) (s .lower) ≡ true
+  pub paths : All RightPath (s .paths)
+  pub fits : length (sheetBytes s) ≤ 32768
+
+-- the same bounds as the tests know them
+abbrev pub mostPaths : ℕ
+mostPaths = 1024
+
+abbrev pub mostBytes : ℕ
+mostBytes = 32768
