@@ -1,6 +1,6 @@
 // The rules that every room shares: refusals 1 to 4 and 14 of document 01, as tests of any numbers.
 ghost use mathlib.Core.Path.{_≡_};
-ghost use Rattle.rules.specs.Rules.{finest, isCoordinate, areNeighbours, isLevel, areLimits, isSegments, isSize, arePoints, areChained};
+ghost use Rattle.rules.specs.Rules.{finest, isCoordinate, areNeighbours, isLevel, areLimits, isSegments, pointNumbers, isSize, arePoints, areChained};
 
 // The finest level: positions count 2^FINEST-ths of the parameter.
 pub const FINEST: u32 = 11;
@@ -46,14 +46,21 @@ pub fn segments(count: u32) -> bool
     (1 <= count) & (count <= 64)
 }
 
-// 14 where it fails: the segments are looked at first, so that no product wraps.
+// How many numbers the points of so many segments are.
+pub fn point_numbers(count: u32) -> usize
+    ensures { λ r. ⌜ r ≡ pointNumbers count ⌝ }
+{
+    2 * (3 * count as usize + 1)
+}
+
+// 14 where it fails.
 pub fn size(count: u32, numbers: usize) -> bool
     ensures { λ r. ⌜ r ≡ isSize count numbers ⌝ }
 {
     if !segments(count) {
         return false;
     }
-    numbers == 2 * (3 * count as usize + 1)
+    numbers == point_numbers(count)
 }
 
 // 1 over a whole path's points where it fails.

@@ -1,5 +1,5 @@
--- The order of the refusals: each number where all tests before it are kept, whatever comes after. The order inside one path is in PathRules;
--- that one record or path comes before the next, and all before 16 or 17, is `records-stop`, `records-left` of Reading and `paths-stop`,
+-- The order of the refusals: each number where all tests before it are kept, whatever comes after. That 1 comes before 2 is in PathRules; that
+-- one record or path comes before the next, and all before 16 or 17, is `records-stop`, `records-left` of Reading and `paths-stop`,
 -- `paths-left` of Writing.
 use mathlib.Core.Path.{_≡_}
 use mathlib.Core.Bool.{true, false}
@@ -7,19 +7,20 @@ use mathlib.Core.List.{List}
 use Prim.Native.Nat.{ℕ, _+_, _*_, _≤_, _<_}
 use native.Mathlib.Omega.{arith}
 use borrow.Author.Tests.{le-leb, lt-leb, eq-eqb, ne-eqb}
+use lib.Dec.{leb}
 use lib.IntN.{ℤ}
 use lib.ListN.{length}
 use Rattle.rules.specs.Rules.{finest, isLevel, areLimits, isSegments}
 use Rattle.rules.proofs.Laws.{first-stop}
-use Rattle.sheet.specs.Bytes.{u16At, u32At}
-use Rattle.sheet.specs.Sheet.{headSize, sheetBytes, sheetNumbers, mostPaths, mostBytes}
-use Rattle.sheet.specs.Reading.{recordAt, recordEnd, sheetAt, isOffset, bodyRefusal, recordRefusal, recordsRefusal, sheetRefusal, readRefusal}
+use Rattle.sheet.specs.Bytes.{u32At}
+use Rattle.sheet.specs.Sheet.{Target, headSize, sheetBytes, sheetNumbers, mostPaths, mostBytes}
+use Rattle.sheet.specs.Reading.{recordAt, recordEnd, sheetAt, pointsRefusal, pathRules, isOffset, bodyRefusal, recordRefusal, recordsRefusal, sheetRefusal, readRefusal}
 use Rattle.sheet.specs.Writing.{numberAt, pathAt, pathEnd, sheetOf, pathRefusal, pathsRefusal, listRefusal, writeRefusal}
 use Rattle.sheet.specs.Answer.{refusedBy, readAnswer, writeAnswer}
-use Rattle.sheet.proofs.PathRules.{refuses-no-head, refuses-14, refuses-3, refuses-cut}
+use Rattle.sheet.proofs.PathRules.{refuses-no-head, refuses-14, refuses-3, refuses-cut, refuses-by-points}
 use Rattle.sheet.proofs.Room.{room-short, room-refused}
 
--- ---- reading: 11, 12, 4, the records, 9
+-- ---- reading: 11, 12, 4, the records
 
 module _ (b : List ℕ) where
   pub sheet-refuses-11-under : length b < 12 → sheetRefusal b ≡ 11
@@ -60,26 +61,38 @@ module _ (b : List ℕ) (k p : ℕ) where
   unfolding recordRefusal isOffset
   record-refuses-by-body e = rw (eq-eqb _ p e)
 
--- the rules of a record at p: 15 for its first four bytes, 14, 3, 15 for its points
-module _ (b : List ℕ) (p : ℕ) where
-  pub body-refuses-15-head : length b < p + 4 → bodyRefusal b p ≡ 15
-  unfolding bodyRefusal
-  body-refuses-15-head h = refuses-no-head 15 _ _ (recordAt b p) (lt-leb (p + 4) (length b) h)
+-- ---- one path, in a sheet and in a number list
 
-  module _ (head : p + 4 ≤ length b) where
-    pub body-refuses-14 : isSegments (u16At b p) ≡ false → bodyRefusal b p ≡ 14
-    unfolding bodyRefusal recordAt
-    body-refuses-14 e = refuses-14 15 _ _ (recordAt b p) (le-leb _ _ head) e
+-- It takes `head` places to begin and `end` places to end, of `size` that there are; one that ends early has the number `short`.
+pub record PathOrder (refusal short head end size : ℕ) (p : Target) : Type 0 where
+  pub no-head : size < head → refusal ≡ short
+  pub no-segments : head ≤ size → isSegments (p .segments) ≡ false → refusal ≡ 14
+  pub no-level : head ≤ size → isSegments (p .segments) ≡ true → isLevel finest (p .level) ≡ false → refusal ≡ 3
+  pub cut : head ≤ size → isSegments (p .segments) ≡ true → isLevel finest (p .level) ≡ true → size < end → refusal ≡ short
+  pub by-points : head ≤ size → isSegments (p .segments) ≡ true → isLevel finest (p .level) ≡ true → end ≤ size
+      → refusal ≡ pointsRefusal (p .points)
 
-    module _ (segments : isSegments (u16At b p) ≡ true) where
-      pub body-refuses-3 : isLevel finest (u16At b (p + 2)) ≡ false → bodyRefusal b p ≡ 3
-      unfolding bodyRefusal recordAt
-      body-refuses-3 e = refuses-3 15 _ _ (recordAt b p) (le-leb _ _ head) segments e
+rules-in-order : (short head end size : ℕ) (p : Target) → PathOrder (pathRules short (leb head size) (leb end size) p) short head end size p
+rules-in-order short head end size p =
+    record {
+      no-head = λ h. refuses-no-head short _ _ p (lt-leb head size h);
+      no-segments = λ h s. refuses-14 short _ _ p (le-leb head size h) s;
+      no-level = λ h s l. refuses-3 short _ _ p (le-leb head size h) s l;
+      cut = λ h s l e. refuses-cut short _ _ p (le-leb head size h) s l (lt-leb end size e);
+      by-points = λ h s l e. refuses-by-points short _ _ p (le-leb head size h) s l (le-leb end size e);
+    }
 
-      pub body-refuses-15-points : isLevel finest (u16At b (p + 2)) ≡ true → length b < recordEnd b p → bodyRefusal b p ≡ 15
-      unfolding bodyRefusal recordAt
-      body-refuses-15-points level h =
-          refuses-cut 15 _ _ (recordAt b p) (le-leb _ _ head) segments level (lt-leb (recordEnd b p) (length b) h)
+-- a record at p: 15 for its first four bytes, 14, 3, 15 for its points, then 1 and 2
+pub record-order : (b : List ℕ) (p : ℕ) → PathOrder (bodyRefusal b p) 15 (p + 4) (recordEnd b p) (length b) (recordAt b p)
+unfolding bodyRefusal
+record-order b p = rules-in-order 15 (p + 4) (recordEnd b p) (length b) (recordAt b p)
+
+-- a path at i: 17 for its first two numbers, 14, 3, 17 for its points, then 1 and 2
+pub path-order : (l : List ℤ) (i : ℕ) → PathOrder (pathRefusal l i) 17 (i + 2) (pathEnd l i) (length l) (pathAt l i)
+unfolding pathRefusal
+path-order l i = rules-in-order 17 (i + 2) (pathEnd l i) (length l) (pathAt l i)
+
+-- ---- 9 after all of a sheet's refusals
 
 module _ (b : List ℕ) (room : ℕ) where
   pub read-refuses-by-sheet : (sheetRefusal b ≡ 0 → ⊥) → readAnswer b room ≡ refusedBy (sheetRefusal b)
@@ -116,27 +129,6 @@ module _ (l : List ℤ) where
         pub list-refuses-11 : pathsRefusal l (numberAt l 0) 3 ≡ 0 → mostBytes < length (sheetBytes (sheetOf l)) → listRefusal l ≡ 11
         unfolding listRefusal
         list-refuses-11 e h = rw (le-leb _ _ least, le-leb _ _ few, limits, e, lt-leb (length (sheetBytes (sheetOf l))) mostBytes h)
-
--- the rules of a path at i: 17 for its first two numbers, 14, 3, 17 for its points
-module _ (l : List ℤ) (i : ℕ) where
-  pub path-refuses-17-head : length l < i + 2 → pathRefusal l i ≡ 17
-  unfolding pathRefusal
-  path-refuses-17-head h = refuses-no-head 17 _ _ (pathAt l i) (lt-leb (i + 2) (length l) h)
-
-  module _ (head : i + 2 ≤ length l) where
-    pub path-refuses-14 : isSegments (numberAt l i) ≡ false → pathRefusal l i ≡ 14
-    unfolding pathRefusal pathAt
-    path-refuses-14 e = refuses-14 17 _ _ (pathAt l i) (le-leb _ _ head) e
-
-    module _ (segments : isSegments (numberAt l i) ≡ true) where
-      pub path-refuses-3 : isLevel finest (numberAt l (i + 1)) ≡ false → pathRefusal l i ≡ 3
-      unfolding pathRefusal pathAt
-      path-refuses-3 e = refuses-3 17 _ _ (pathAt l i) (le-leb _ _ head) segments e
-
-      pub path-refuses-17-points : isLevel finest (numberAt l (i + 1)) ≡ true → length l < pathEnd l i → pathRefusal l i ≡ 17
-      unfolding pathRefusal pathAt
-      path-refuses-17-points level h =
-          refuses-cut 17 _ _ (pathAt l i) (le-leb _ _ head) segments level (lt-leb (pathEnd l i) (length l) h)
 
 module _ (l : List ℤ) (room : ℕ) where
   pub write-refuses-by-list : (listRefusal l ≡ 0 → ⊥) → writeAnswer l room ≡ refusedBy (listRefusal l)

@@ -4,7 +4,6 @@ ghost use Prim.Native.Nat.{_+_, _*_, _≤_, _<_};
 ghost use lib.ListN.{length, drop};
 ghost use lib.Seq.{sets};
 ghost use Rattle.numbers.proofs.Tables.{All};
-ghost use Rattle.rules.specs.Rules.{pointNumbers};
 ghost use Rattle.sheet.specs.Bytes.{Short, le16, le32, bits16, valueBytes, u16At, u32At, i16At, valuesAt};
 ghost use Rattle.sheet.specs.Sheet.{headSize, mostPaths, mostBytes, offsets, sheetBytes, sheetNumbers};
 ghost use Rattle.sheet.specs.Reading.{pointsRefusal, bodyRefusal, recordRefusal, recordsRefusal, sheetRefusal, sheetAt};
@@ -109,7 +108,7 @@ fn records_refusal(sheet: &[u8], paths: u32) -> u32
         if refusal != 0 {
             return refusal;
         }
-        at += 4 + 2 * point_numbers(u16_at(sheet, at));
+        at += 4 + 2 * rules::point_numbers(u16_at(sheet, at));
         k += 1;
     }
     if at != sheet.len() {
@@ -143,7 +142,7 @@ fn body_refusal(sheet: &[u8], at: usize) -> u32
     if !rules::level(u16_at(sheet, at + 2)) {
         return 3;
     }
-    let n = point_numbers(segments);
+    let n = rules::point_numbers(segments);
     if sheet.len() < at + 4 + 2 * n {
         return 15;
     }
@@ -201,7 +200,7 @@ fn paths_refusal(numbers: &[i32], paths: u32) -> u32
         if refusal != 0 {
             return refusal;
         }
-        at += 2 + point_numbers(natural(numbers[at]));
+        at += 2 + rules::point_numbers(natural(numbers[at]));
         left -= 1;
     }
     if at != numbers.len() {
@@ -224,7 +223,7 @@ fn path_refusal(numbers: &[i32], at: usize) -> u32
     if !rules::level(natural(numbers[at + 1])) {
         return 3;
     }
-    let end = at + 2 + point_numbers(segments);
+    let end = at + 2 + rules::point_numbers(segments);
     if numbers.len() < end {
         return 17;
     }
@@ -305,7 +304,7 @@ fn put_offsets(numbers: &[i32], paths: u32, sheet: &mut [u8])
     let mut left = paths;
     while 0 < left {
         put_u32(sheet, to, place as u32);
-        let n = point_numbers(natural(numbers[at]));
+        let n = rules::point_numbers(natural(numbers[at]));
         place += 4 + 2 * n;
         at += 2 + n;
         to += 4;
@@ -328,20 +327,11 @@ fn put_values(numbers: &[i32], sheet: &mut [u8], p: usize)
     }
 }
 
-// ---- sizes
-
 // The bytes before the records.
 fn head_size(paths: u32) -> usize
     ensures { λ r. ⌜ r ≡ headSize paths ⌝ }
 {
     12 + 4 * paths as usize
-}
-
-// The numbers of a path's points.
-fn point_numbers(segments: u32) -> usize
-    ensures { λ r. ⌜ r ≡ pointNumbers segments ⌝ }
-{
-    2 * (3 * segments as usize + 1)
 }
 
 // ---- numbers in bytes

@@ -1,4 +1,4 @@
--- Each return rewrites `isSegments` with what the call found.
+-- Each return rewrites `isSize` with what the calls found.
 use mathlib.Core.Path.{sym, _∙_}
 use borrow.Author.Needs.{needs}
 use borrow.Author.Tests.{not-true, not-false}
@@ -13,18 +13,14 @@ returns : tie.Need-returns
 unfolding isSize
 returns c = simp (sym (c .before .segments .ensures) ∙ not-true _ (c .if1 .taken))
 
-mul-result : tie.Need-mul-result
-mul-result c = search needs
-
-add-result : tie.Need-add-result
-add-result c = search needs
-
-mul-result-2 : tie.Need-mul-result-2
-mul-result-2 c = search needs
+point-numbers-requires : tie.Need-point-numbers-requires
+point-numbers-requires c κs = search needs
 
 returns-2 : tie.Need-returns-2
 unfolding isSize
-returns-2 c = simp (sym (c .before .segments .ensures) ∙ not-false _ (c .if1 .left))
+returns-2 c =
+    let d = c .before in
+    simp (sym (d .before .segments .ensures) ∙ not-false _ (d .if1 .left), c .point-numbers .ensures)
 
 pub size-spec : {M : Type 1} → statement M
-size-spec = tie.close (tie.spec segments-requires returns mul-result add-result mul-result-2 returns-2)
+size-spec = tie.close (tie.spec segments-requires returns point-numbers-requires returns-2)
