@@ -1,7 +1,5 @@
-"""Test requests for reading and writing sheets, with the model's answers.
-
-    python3 sheet_vectors.py REQUESTS ANSWERS           writes both files
-    python3 sheet_vectors.py --check REQUESTS ANSWERS   compares with them
+"""Requests for the program `vectors`, which reads and writes sheets, with the
+model's answers; stored.py writes both to the program's folder.
 
 A request is little-endian 32-bit words: code (1 read, 2 write), room, length;
 then `length` bytes to read, or `length` numbers to write. Room is the length
@@ -15,16 +13,17 @@ model has to agree with it.
 """
 import random
 import struct
-import sys
 from collections import Counter
 
-import model
+from makers import (BENT, LEAST, MOST, ONE, ONE_LIST, PAIR, TWO, TWO_LIST,
+                    damage, jump, number_list, put, random_sheet, sheet,
+                    straight, strange_byte, strange_number, swap, zigzag)
+from model.sheet import read_sheet, sheet_bytes, sheet_numbers, write_sheet
 
 READ, WRITE = 1, 2
 ROOM = 64
 READ_REFUSALS = {1, 2, 3, 4, 9, 11, 12, 13, 14, 15, 16}
 WRITE_REFUSALS = {1, 2, 3, 4, 9, 11, 12, 14, 17}
-MOST, LEAST = 2**31 - 1, -2**31
 
 
 # Requests and answers
@@ -53,80 +52,21 @@ class Vectors:
         self.tally[code, refusal] += 1
 
     def read(self, expected, data, room=ROOM):
-        refusal, numbers = model.read_sheet(data, room)
+        refusal, numbers = read_sheet(data, room)
         assert expected in (refusal, None), (expected, refusal, data.hex())
         if refusal == 0:  # a sheet that is read is written back the same
-            assert model.write_sheet(numbers, len(data)) == (0, data)
+            assert write_sheet(numbers, len(data)) == (0, data)
         line = answer_line(refusal, numbers, room, -7)
         self.add(READ, room, len(data), data, refusal, line)
 
     def write(self, expected, numbers, room=ROOM):
-        refusal, data = model.write_sheet(numbers, room)
+        refusal, data = write_sheet(numbers, room)
         assert expected in (refusal, None), (expected, refusal, numbers)
         if refusal == 0:  # and the other way round
-            assert model.read_sheet(data, len(numbers)) == (0, numbers)
+            assert read_sheet(data, len(numbers)) == (0, numbers)
         content = struct.pack(f"<{len(numbers)}i", *numbers)
         line = answer_line(refusal, data, room, 7)
         self.add(WRITE, room, len(numbers), content, refusal, line)
-
-
-# Paths, sheets and their faults
-
-def straight(segments, level=0, start=(0, 0), move=(1, 0)):
-    """A path whose points all lie one move apart."""
-    (x, y), (dx, dy) = start, move
-    points = model.points_in(segments)
-    return level, [(x + i * dx, y + i * dy) for i in range(points)]
-
-
-def zigzag(segments, level, dx, dy):
-    """A path that goes there and back again."""
-    points = model.points_in(segments)
-    return level, [(i % 2 * dx, i % 2 * dy) for i in range(points)]
-
-
-def jump(segments, after, dx, dy):
-    """A path that stands still but for one move, after the named point."""
-    points = model.points_in(segments)
-    return 0, [(dx, dy) if i > after else (0, 0) for i in range(points)]
-
-
-def sheet(*paths):
-    return model.sheet_bytes(65_536, 32_768, paths)
-
-
-def number_list(*paths):
-    return model.sheet_numbers(65_536, 32_768, paths)
-
-
-def put(data, *changes):
-    """The sheet with each (place, form, value) written over it."""
-    data = bytearray(data)
-    for place, form, value in changes:
-        struct.pack_into("<" + form, data, place, value)
-    return bytes(data)
-
-
-def swap(listed, *changes):
-    """The number list with each (place, value) written over it."""
-    listed = list(listed)
-    for place, value in changes:
-        listed[place] = value
-    return listed
-
-
-BENT = (11, [(-5, 7), (-4, 9), (100, -200), (50, 60)])
-PAIR = [straight(1), BENT]
-
-# Offsets at 12; record at 16: S 16, level 18, points 20 to 35.
-ONE = sheet(straight(1))
-# Offsets at 12 and 16; record 0 at 20: S 20, level 22, points 24 to 39;
-# record 1 at 40: S 40, level 42, points 44 to 59.
-TWO = sheet(*PAIR)
-# Path: S 3, level 4, points 5 to 12.
-ONE_LIST = number_list(straight(1))
-# Path 0: S 3, level 4, points 5 to 12; path 1: S 13, level 14, points 15 to 22.
-TWO_LIST = number_list(*PAIR)
 
 
 # Good sheets, read and written, with every kind of room
@@ -161,9 +101,9 @@ def add_good(vectors):
     assert ONE_LIST == [1, 65_536, 32_768, 1, 0, 0, 0, 1, 0, 2, 0, 3, 0]
     # Each good sheet: room that is enough, one more, more; one short, empty.
     for parts in good_sheets():
-        data, listed = model.sheet_bytes(*parts), model.sheet_numbers(*parts)
-        assert model.read_sheet(data, len(listed)) == (0, listed)
-        assert model.write_sheet(listed, len(data)) == (0, data)
+        data, listed = sheet_bytes(*parts), sheet_numbers(*parts)
+        assert read_sheet(data, len(listed)) == (0, listed)
+        assert write_sheet(listed, len(data)) == (0, data)
         for more in (0, 1, 40):
             vectors.read(0, data, len(listed) + more)
             vectors.write(0, listed, len(data) + more)
@@ -488,62 +428,16 @@ def add_write_order_across(vectors):
 
 # Random damage to small good sheets and lists
 
-def random_path(chance):
-    """A good path of 1 or 2 segments, at times near the ends."""
-    x, y = chance.choice([(0, 0), (-16_384, 16_383), (16_383, -16_384)])
-    points = []
-    for _ in range(model.points_in(chance.randint(1, 2))):
-        points.append((x, y))
-        reach = chance.choice([3, 682])
-        x = min(max(x + chance.randint(-reach, reach), -16_384), 16_383)
-        y = min(max(y + chance.randint(-reach, reach), -16_384), 16_383)
-    return chance.randint(0, 11), points
-
-
-def random_sheet(chance):
-    upper = chance.randint(1, 65_536)
-    paths = [random_path(chance) for _ in range(chance.randint(0, 3))]
-    return upper, chance.randint(0, upper), paths
-
-
-def damage(chance, values, strange):
-    """One value changed, values cut off or taken out, or values added."""
-    values = list(values)
-    place = chance.randrange(len(values))
-    kind = chance.randrange(8)
-    if kind == 0:
-        return values[:place]
-    if kind == 1:
-        return values + [strange() for _ in range(chance.randint(1, 4))]
-    if kind == 2:
-        del values[place]
-    elif kind == 3:
-        values.insert(place, strange())
-    else:
-        values[place] = strange()
-    return values
-
-
 def add_random(vectors):
     chance = random.Random(1)
-
-    def strange_byte():
-        return chance.choice([0, 1, 2, 11, 12, 64, 65, 127, 128, 255,
-                              chance.randrange(256)])
-
-    def strange_number():
-        return chance.choice([-1, 0, 1, 2, 3, 11, 12, 64, 65, 682, 683, 16_383,
-                              16_384, -16_384, -16_385, 65_536, MOST, LEAST,
-                              chance.randint(-700, 700)])
-
     for _ in range(150):
         parts = random_sheet(chance)
-        exact = len(model.sheet_numbers(*parts))
-        data = bytes(damage(chance, model.sheet_bytes(*parts), strange_byte))
+        exact = len(sheet_numbers(*parts))
+        data = bytes(damage(chance, sheet_bytes(*parts), strange_byte))
         vectors.read(None, data, chance.choice([exact, exact, exact - 1, 100]))
         parts = random_sheet(chance)
-        exact = len(model.sheet_bytes(*parts))
-        listed = damage(chance, model.sheet_numbers(*parts), strange_number)
+        exact = len(sheet_bytes(*parts))
+        listed = damage(chance, sheet_numbers(*parts), strange_number)
         vectors.write(None, listed, chance.choice([exact, exact - 1, 200]))
 
 
@@ -561,35 +455,3 @@ def make_vectors():
         met = {number for used, number in vectors.tally if used == code}
         assert met == wanted | {0}, (code, met)
     return vectors
-
-
-def report(vectors):
-    print(f"{len(vectors.requests)} requests", file=sys.stderr)
-    for code, name in ((READ, "read"), (WRITE, "write")):
-        counts = {number: count for (used, number), count
-                  in sorted(vectors.tally.items()) if used == code}
-        print(f"{name}: {sum(counts.values())}; by refusal "
-              + ", ".join(f"{n}: {c}" for n, c in counts.items()),
-              file=sys.stderr)
-
-
-def main(arguments):
-    check = arguments[:1] == ["--check"]
-    names = arguments[check:]
-    if len(names) != 2:
-        sys.exit("usage: sheet_vectors.py [--check] REQUESTS ANSWERS")
-    vectors = make_vectors()
-    report(vectors)
-    answers = "".join(line + "\n" for line in vectors.lines).encode()
-    for name, made in zip(names, (b"".join(vectors.requests), answers)):
-        if not check:
-            with open(name, "wb") as file:
-                file.write(made)
-            continue
-        with open(name, "rb") as file:
-            if file.read() != made:
-                sys.exit(f"{name} differs from what the model makes")
-
-
-if __name__ == "__main__":
-    main(sys.argv[1:])

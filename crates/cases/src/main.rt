@@ -150,5 +150,5 @@ fn signed(label: &[u8], v: i32) {
     if v < 0 {
         io::write_all(OUT, b"-");
     }
-    io::print_decimal(OUT, words::magnitude(v));
+    io::print_decimal(OUT, words::magnitude(v as i64));
 }

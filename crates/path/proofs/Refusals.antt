@@ -1,10 +1,10 @@
 -- The order of a path's refusals: 14 comes first, then 1 for any coordinate of the whole path, then 2 for any two neighbours, then 3, 4, 9.
 use mathlib.Core.Path.{_≡_, refl, sym, ap, _∙_}
 use mathlib.Core.Bool.{Bool, true, false, true≢false}
-use Prim.Native.Nat.{ℕ, _+_, _*_, _<_}
+use Prim.Native.Nat.{ℕ, _+_, _*_, _≤_, _<_}
 use lib.IntN.{pos}
 use lib.ListN.{length, getD}
-use borrow.Author.Tests.{lt-leb}
+use borrow.Author.Tests.{le-leb, lt-leb}
 use Rattle.rules.specs.Rules.{unless, isCoordinate, areNeighbours, isLevel, areLimits, coordinates, isSize, arePoints, areChained}
 use Rattle.rules.proofs.Every.{points-hold, chained-hold}
 use Rattle.lists.specs.Entries.{entrySize}
@@ -52,3 +52,8 @@ module _ (F : ℕ) (p : Path) (rest : ℕ) where
 pub refuses-9 : (F : ℕ) (p : Path) (room : ℕ) → measureRefusal F p ≡ 0 → room < entrySize * length (entries F p) → drawRefusal F p room ≡ 9
 unfolding measureRefusal drawRefusal
 refuses-9 F p room e h = path-room F p _ e ∙ ap (λ (b : Bool). unless b 9 0) (lt-leb (entrySize * length (entries F p)) room h)
+
+-- and where there is room it is drawn
+pub room-drawn : (F : ℕ) (p : Path) (room : ℕ) → measureRefusal F p ≡ 0 → entrySize * length (entries F p) ≤ room → drawRefusal F p room ≡ 0
+unfolding measureRefusal drawRefusal
+room-drawn F p room e h = path-room F p _ e ∙ ap (λ (b : Bool). unless b 9 0) (le-leb (entrySize * length (entries F p)) room h)

@@ -388,7 +388,7 @@ fn bits_16(z: i32) -> u32
 }
 
 // A count, a limit, segments or a level of a number list; one below 0 is larger than any rule allows.
-fn natural(z: i32) -> u32
+pub fn natural(z: i32) -> u32
     ensures { λ r. ⌜ r ≡ natural z ⌝ }
 {
     if z < 0 { 4294967295 } else { z as u32 }

@@ -162,9 +162,9 @@ fn end_line(size: usize, sum: u64) {
 fn print_signed(z: i32) {
     if z < 0 {
         io::write_all(STDOUT_FILENO, b" -");
-        io::print_decimal(STDOUT_FILENO, words::magnitude(z));
+        io::print_decimal(STDOUT_FILENO, words::magnitude(z as i64));
     } else {
-        print_count(words::magnitude(z));
+        print_count(words::magnitude(z as i64));
     }
 }
 

@@ -33,11 +33,11 @@ pub fn bits(z: i32) -> u32
 }
 
 // A number without its sign.
-pub fn magnitude(z: i32) -> u64
+pub fn magnitude(z: i64) -> u64
     ensures { λ r. ⌜ r ≡ natAbs z ⌝ }
 {
     if z < 0 {
-        return (0 - (z as i64)) as u64;
+        return (0 - (z + 1)) as u64 + 1;
     }
     z as u64
 }

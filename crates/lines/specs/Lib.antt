@@ -1,0 +1,4 @@
+pub mod Lines
+pub mod Listing
+pub mod Pieces
+pub mod Printed

@@ -1,0 +1,35 @@
+-- Part by part.
+use borrow.Author.Needs.{needs}
+use Rattle.probe.proofs.input.drawing_of.Statement.{statement}
+use Rattle.probe.proofs.input.drawing_of.Tie as tie
+
+unsigned-at-requires : tie.Need-unsigned-at-requires
+unsigned-at-requires c κs = search needs
+
+unsigned-at-requires-2 : tie.Need-unsigned-at-requires-2
+unsigned-at-requires-2 c κs = search needs
+
+registers-of-requires : tie.Need-registers-of-requires
+registers-of-requires c κs = search needs
+
+registers-of-requires-2 : tie.Need-registers-of-requires-2
+registers-of-requires-2 c κs = search needs
+
+returns : tie.Need-returns
+returns c =
+    λ i. record {
+      level = c .before .before .before .unsigned-at .ensures i;
+      q = c .before .before .unsigned-at2 .ensures i;
+      x = c .before .registers-of .ensures i;
+      y = c .registers-of2 .ensures i;
+    }
+
+pub drawing-of-spec : {M : Type 1} → statement M
+drawing-of-spec =
+    tie.close
+    (tie.spec
+    unsigned-at-requires
+    unsigned-at-requires-2
+    registers-of-requires
+    registers-of-requires-2
+    returns)

@@ -1,0 +1,2 @@
+-- What a request's words stand for.
+pub mod Words

@@ -1,0 +1,49 @@
+-- What stands in a request: words in its bytes, and in its words unsigned numbers, control points and drawings.
+use mathlib.Core.List.{List}
+use Prim.Native.Nat.{ℕ, _+_, _*_}
+use lib.IntN.{ℤ, pos}
+use lib.ListN.{getD}
+use mir.Syntax.{w32}
+use mir.Val.{ofZ}
+use Rattle.engine.specs.declared.Control.{Control}
+use Rattle.engine.specs.declared.Drawing.{Drawing}
+use Rattle.engine.specs.declared.Registers.{Registers}
+
+abbrev pub wordAt : List ℕ → ℕ → ℕ
+wordAt bytes at =
+    getD bytes at 0 + 256 * getD bytes (at + 1) 0 + 65536 * getD bytes (at + 2) 0 + 16777216 * getD bytes (at + 3) 0
+
+abbrev pub signedAt : List ℤ → ℕ → ℤ
+signedAt words at = getD words at (pos 0)
+
+abbrev pub unsignedAt : List ℤ → ℕ → ℕ
+unsignedAt words at = ofZ w32 (signedAt words at)
+
+-- x0 y0 x1 y1 x2 y2 x3 y3, x from place 0 on and y from 1
+abbrev pub controlAt : List ℤ → ℕ → Control
+controlAt words at =
+    record {
+      p0 = signedAt words at;
+      p1 = signedAt words (at + 2);
+      p2 = signedAt words (at + 4);
+      p3 = signedAt words (at + 6);
+    }
+
+abbrev pub registersAt : List ℤ → ℕ → Registers
+registersAt words at =
+    record {
+      a = signedAt words at;
+      b = signedAt words (at + 1);
+      c = signedAt words (at + 2);
+      d = signedAt words (at + 3);
+    }
+
+-- level q xa xb xc xd ya yb yc yd
+abbrev pub drawingIn : List ℤ → Drawing
+drawingIn words =
+    record {
+      level = unsignedAt words 0;
+      q = unsignedAt words 1;
+      x = registersAt words 2;
+      y = registersAt words 6;
+    }

@@ -1,0 +1,113 @@
+// Words of standard input, and what a request's words stand for.
+ghost use mathlib.Core.Path.{_≡_};
+ghost use Prim.Native.Nat.{_+_, _*_, _%_, _≤_, _<_};
+ghost use lib.ListN.{length};
+ghost use Rattle.probe.specs.Words.{wordAt, unsignedAt, controlAt, registersAt, drawingIn};
+use engine::Control;
+use engine::Drawing;
+use engine::Registers;
+use libc::STDIN_FILENO;
+
+// Fills `words` from standard input, by way of `bytes`; false where the input ends before.
+pub(crate) fn take_words(bytes: &mut [u8], words: &mut [i32]) -> bool
+    requires { ⌜ 4 * length (now words) ≤ length (now bytes) ⌝ }
+{
+    let size = 4 * words.len();
+    if io::read_full(STDIN_FILENO, &mut bytes[..size]) < size {
+        return false;
+    }
+    let mut i: usize = 0;
+    while i < words.len() {
+        let z = words::signed(word_at(bytes, 4 * i));
+        words[i] = z;
+        i += 1;
+    }
+    true
+}
+
+pub(crate) fn word_at(bytes: &[u8], at: usize) -> u32
+    requires { ⌜ at + 4 ≤ length (now bytes) ⌝ }
+    ensures { λ r. ⌜ r ≡ wordAt (now (bytes .entry)) at ⌝ }
+{
+    words::word(bytes[at], bytes[at + 1], bytes[at + 2], bytes[at + 3])
+}
+
+// A word as a number from 0 on.
+pub(crate) fn unsigned_at(words: &[i32], at: usize) -> u32
+    requires { ⌜ at < length (now words) ⌝ }
+    ensures { λ r. ⌜ r ≡ unsignedAt (now (words .entry)) at ⌝ }
+{
+    let z = words[at];
+    words::bits(z)
+}
+
+// One coordinate of the control points x0 y0 x1 y1 x2 y2 x3 y3, x at 0 and y at 1.
+pub(crate) fn control_of(words: &[i32], at: usize) -> Control
+    requires { ⌜ at + 6 < length (now words) ⌝ }
+    ensures { λ r. ⌜ r ≡ controlAt (now (words .entry)) at ⌝ }
+{
+    Control {
+        p0: words[at],
+        p1: words[at + 2],
+        p2: words[at + 4],
+        p3: words[at + 6],
+    }
+}
+
+// level q xa xb xc xd ya yb yc yd.
+pub(crate) fn drawing_of(words: &[i32]) -> Drawing
+    requires { ⌜ 10 ≤ length (now words) ⌝ }
+    ensures { λ r. ⌜ r ≡ drawingIn (now (words .entry)) ⌝ }
+{
+    Drawing {
+        level: unsigned_at(words, 0),
+        q: unsigned_at(words, 1),
+        x: registers_of(words, 2),
+        y: registers_of(words, 6),
+    }
+}
+
+fn registers_of(words: &[i32], at: usize) -> Registers
+    requires { ⌜ at + 4 ≤ length (now words) ⌝ }
+    ensures { λ r. ⌜ r ≡ registersAt (now (words .entry)) at ⌝ }
+{
+    Registers {
+        a: words[at],
+        b: words[at + 1],
+        c: words[at + 2],
+        d: words[at + 3],
+    }
+}
+
+// The low eight bits of each word.
+pub(crate) fn take_bytes(words: &[i32], bytes: &mut [u8]) {
+    let mut i: usize = 0;
+    while i < words.len() && i < bytes.len() {
+        bytes[i] = low_byte(unsigned_at(words, i));
+        i += 1;
+    }
+}
+
+fn low_byte(word: u32) -> u8
+    ensures { λ r. ⌜ r ≡ word % 256 ⌝ }
+{
+    (word % 256) as u8
+}
+
+// ---- what the lent places hold before a call
+
+pub(crate) fn fill_numbers(list: &mut [i32]) {
+    let mut i: usize = 0;
+    while i < list.len() {
+        list[i] = -7;
+        i += 1;
+    }
+}
+
+pub(crate) fn fill_bytes(bytes: &mut [u8]) {
+    let mut i: usize = 0;
+    while i < bytes.len() {
+        bytes[i] = 7;
+        i += 1;
+    }
+}

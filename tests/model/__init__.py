@@ -1,0 +1,15 @@
+"""A model of the library, to compare its answers with.
+
+Written from document 01 alone: it knows nothing of the library's code, and
+it follows the document's words in their order. Numbers are Python's whole
+numbers, which have no end, so nothing here can wrap round or be cut.
+
+    rules     refusals, and the rules that several parts share
+    drawing   the exact curve, the registers and their operations
+    path      the point list of a path, and its length
+    sheet     the binary sheet and its number list, read and written
+    listing   the text that the listing program prints
+
+Every entry answers for any numbers; the refusal comes first in each answer,
+and is 0 for none.
+"""
