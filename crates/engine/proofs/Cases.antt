@@ -7,8 +7,10 @@ use mathlib.Core.Option.{Option, none, some}
 use Prim.Native.Nat.{ℕ}
 use lib.Dec.{T, eqb, eqb→eq}
 use lib.IntN.{ℤ, pos, negsuc}
-use Rattle.numbers.proofs.Tests.{eqbℤ, eqbℤ→eq}
-use Rattle.numbers.proofs.Tables.{All, every, tested}
+use Rattle.numbers.specs.Tests.{eqbℤ}
+use Rattle.numbers.proofs.Tests.{eqbℤ→eq}
+use Rattle.numbers.specs.Tables.{All, every}
+use Rattle.numbers.proofs.Tables.{tested}
 use Rattle.rules.specs.Rules.{finest, isCoordinate, areNeighbours, isLevel}
 use Rattle.engine.specs.declared.Control.{Control}
 use Rattle.engine.specs.declared.Moved.{Moved}

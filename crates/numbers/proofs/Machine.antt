@@ -14,7 +14,8 @@ use mir.Syntax.{Width, w32, w64}
 use mir.Val.{Fits, SFits, toZ, ofZ, bits, hbits}
 use mir.Facts.{toZ-ofZ, sfits-widen}
 use borrow.Author.Needs.{needs}
-use Rattle.numbers.proofs.Tests.{eqbℤ, eq→eqbℤ, ne→eqbℤ}
+use Rattle.numbers.specs.Tests.{eqbℤ}
+use Rattle.numbers.proofs.Tests.{eq→eqbℤ, ne→eqbℤ}
 use Rattle.numbers.proofs.Size.{Size, size-of, size-sum, size-difference, size-product, size-by, size-floor, size-shift}
 
 pub record Num (N : ℕ) (z : ℤ) : Type 0 where

@@ -1,16 +1,9 @@
 -- A rule that holds at every entry of a table, shown by one test that antt computes over the whole table, or part by part.
-use mathlib.Core.Bool.{Bool, true, _&&_}
+use mathlib.Core.Bool.{Bool}
 use mathlib.Core.List.{List, [], _∷_, _++_, map}
 use lib.Dec.{T}
 use mir.Facts.{and-yes}
-
-abbrev pub All : {A : Type 0} → (A → Type 0) → List A → Type 0
-All P [] = Unit
-All P (x ∷ xs) = P x × All P xs
-
-abbrev pub every : {A : Type 0} → (A → Bool) → List A → Bool
-every f [] = true
-every f (x ∷ xs) = f x && every f xs
+use Rattle.numbers.specs.Tables.{All, every}
 
 pub tested : {A : Type 0} (P : A → Type 0) (f : A → Bool) → ((x : A) → T (f x) → P x) → (xs : List A) → T (every f xs) → All P xs
 tested P f h [] t = tt

@@ -9,6 +9,7 @@ use lib.IntN.{ℤ, pos, negsuc, natAbs, _-ℤ_}
 use lib.Signed.{leZ, ltZ, nonNeg}
 use borrow.Author.Tests.{ltb-true, eq-eqb, ne-eqb}
 use mir.Facts.{and-yes}
+use Rattle.numbers.specs.Tests.{eqbℤ, eqbℤs}
 
 pub and-true : (a b : Bool) → (a && b) ≡ true → (a ≡ true) × (b ≡ true)
 and-true true b e = (refl, e)
@@ -45,12 +46,6 @@ from-zero (pos n) e = tt
 from-zero (negsuc n) e = absurd (true≢false e)
 
 -- the same whole number
-abbrev pub eqbℤ : ℤ → ℤ → Bool
-eqbℤ (pos a) (pos b) = eqb a b
-eqbℤ (pos a) (negsuc b) = false
-eqbℤ (negsuc a) (pos b) = false
-eqbℤ (negsuc a) (negsuc b) = eqb a b
-
 pub eqbℤ→eq : (x y : ℤ) → T (eqbℤ x y) → x ≡ y
 eqbℤ→eq (pos a) (pos b) t = ap pos (eqb→eq a b t)
 eqbℤ→eq (pos a) (negsuc b) t = absurd t
@@ -71,12 +66,6 @@ ne→eqbℤ (negsuc a) (pos b) h = refl
 ne→eqbℤ (negsuc a) (negsuc b) h = ne-eqb a b (λ e. h (ap negsuc e))
 
 -- the same whole numbers, one after another
-abbrev pub eqbℤs : List ℤ → List ℤ → Bool
-eqbℤs [] [] = true
-eqbℤs [] (y ∷ ys) = false
-eqbℤs (x ∷ xs) [] = false
-eqbℤs (x ∷ xs) (y ∷ ys) = eqbℤ x y && eqbℤs xs ys
-
 pub eqbℤs→eq : (xs ys : List ℤ) → T (eqbℤs xs ys) → xs ≡ ys
 eqbℤs→eq [] [] t = refl
 eqbℤs→eq [] (y ∷ ys) t = absurd t

@@ -12,10 +12,10 @@ use lib.Seq.{sets}
 use borrow.Author.Tests.{lt-leb, le-leb}
 use Rattle.numbers.proofs.Buffers.{sets-front}
 use Rattle.rules.specs.Rules.{unless, filled, isLevel, areLimits, isSize, arePoints, areChained}
-use Rattle.lists.specs.declared.Entry.{Entry}
-use Rattle.lists.specs.Entries.{entrySize, flat}
-use Rattle.lists.specs.Length.{lengthFrom, lengthOf}
-use Rattle.lists.proofs.Laws.{length-flat}
+use Rattle.entries.specs.declared.Entry.{Entry}
+use Rattle.entries.specs.Entries.{entrySize, flat}
+use Rattle.entries.specs.Length.{lengthFrom, lengthOf}
+use Rattle.entries.proofs.Laws.{length-flat}
 use Rattle.path.specs.declared.Drawn.{Drawn}
 use Rattle.path.specs.declared.Tally.{Tally}
 use Rattle.path.specs.Path.{Path, pathRefusal, first}

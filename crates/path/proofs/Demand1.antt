@@ -10,9 +10,9 @@ use lib.ListN.{length, drop}
 use borrow.Author.Tests.{leb-true}
 use Rattle.rules.specs.Rules.{unless, filled, Among, isLevel, areLimits, standardUpper, standardLower, isSize, arePoints, areChained}
 use Rattle.rules.proofs.Laws.{rule-kept, line-among, among}
-use Rattle.lists.specs.declared.Entry.{Entry}
-use Rattle.lists.specs.Entries.{entrySize, flat}
-use Rattle.lists.specs.Length.{lengthOf}
+use Rattle.entries.specs.declared.Entry.{Entry}
+use Rattle.entries.specs.Entries.{entrySize, flat}
+use Rattle.entries.specs.Length.{lengthOf}
 use Rattle.path.specs.Path.{Path, path, pathRefusal}
 use Rattle.path.specs.Entries.{entries}
 use Rattle.path.specs.Answer.{measureRefusal, drawRefusal, measureTable, drawTable, standardMeasureTable, standardDrawTable, answered, measured, drawn, written}

@@ -20,9 +20,9 @@ use Rattle.engine.specs.Drawing.{newPosition, turned, called}
 use Rattle.engine.specs.Choice.{chosen, choiceRefusal, Said, says, replied, choice, left}
 use Rattle.engine.proofs.Answers.{choice-opens}
 use Rattle.distance.proofs.Choice.{choice-answers, chosen-accepted}
-use Rattle.lists.specs.declared.Entry.{Entry}
-use Rattle.lists.specs.Entries.{entrySize, numbers, flat}
-use Rattle.lists.proofs.Laws.{move-most}
+use Rattle.entries.specs.declared.Entry.{Entry}
+use Rattle.entries.specs.Entries.{entrySize, numbers, flat}
+use Rattle.entries.proofs.Laws.{move-most}
 use Rattle.path.specs.declared.Tally.{Tally}
 use Rattle.path.specs.Path.{Path, first}
 use Rattle.path.specs.Segment.{next, turns}

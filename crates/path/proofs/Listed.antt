@@ -12,10 +12,10 @@ use Rattle.engine.specs.declared.Moved.{Moved}
 use Rattle.engine.specs.Registers.{Operation, step}
 use Rattle.engine.specs.Drawing.{turned}
 use Rattle.distance.proofs.Choice.{choice-answers, chosen-accepted}
-use Rattle.lists.specs.declared.Entry.{Entry}
-use Rattle.lists.specs.Entries.{Each, Among, Linked, lastOf}
-use Rattle.lists.specs.Length.{lengthOf}
-use Rattle.lists.proofs.Laws.{length-most, last-append, each-append, linked-append, among-head, among-before, among-after, among-joined}
+use Rattle.entries.specs.declared.Entry.{Entry}
+use Rattle.entries.specs.Entries.{Each, Among, Linked, lastOf}
+use Rattle.entries.specs.Length.{lengthOf}
+use Rattle.entries.proofs.Laws.{length-most, last-append, each-append, linked-append, among-head, among-before, among-after, among-joined}
 use Rattle.path.specs.Path.{Path, first}
 use Rattle.path.specs.Segment.{Turn, turns}
 use Rattle.path.specs.Entries.{entry, shown, shownBy, rest, following, entries}

@@ -7,7 +7,7 @@ use lib.ListN.{length, getD}
 use borrow.Author.Tests.{le-leb, lt-leb}
 use Rattle.rules.specs.Rules.{unless, isCoordinate, areNeighbours, isLevel, areLimits, coordinates, isSize, arePoints, areChained}
 use Rattle.rules.proofs.Every.{points-hold, chained-hold}
-use Rattle.lists.specs.Entries.{entrySize}
+use Rattle.entries.specs.Entries.{entrySize}
 use Rattle.path.specs.Path.{Path, pathRefusal}
 use Rattle.path.specs.Entries.{entries}
 use Rattle.path.specs.Answer.{measureRefusal, drawRefusal}

@@ -24,8 +24,8 @@ use Rattle.distance.proofs.Near.{At}
 use Rattle.distance.proofs.Ends.{first-exact, first-shown, last-shown}
 use Rattle.distance.proofs.Touching.{touches}
 use Rattle.distance.proofs.Demand3.{demand-3}
-use Rattle.lists.specs.declared.Entry.{Entry}
-use Rattle.lists.specs.Entries.{Each, Linked, lastOf}
+use Rattle.entries.specs.declared.Entry.{Entry}
+use Rattle.entries.specs.Entries.{Each, Linked, lastOf}
 use Rattle.path.specs.Path.{Path, pointAt, control}
 use Rattle.path.specs.Entries.{entry, rest}
 use Rattle.path.specs.Answer.{measureRefusal}

@@ -10,7 +10,7 @@ use Rattle.engine.specs.Drawing.{turned}
 use Rattle.engine.specs.Choice.{wantsHalve, chosen}
 use Rattle.engine.specs.Shown.{pixel}
 use Rattle.engine.proofs.Ends.{by-choice}
-use Rattle.lists.specs.declared.Entry.{Entry}
+use Rattle.entries.specs.declared.Entry.{Entry}
 use Rattle.path.specs.Path.{Path}
 use Rattle.path.specs.Segment.{Turn, next}
 use Rattle.path.specs.Entries.{entry, shown, shownBy, rest}

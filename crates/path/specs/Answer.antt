@@ -5,9 +5,9 @@ use lib.Dec.{leb}
 use lib.IntN.{ℤ}
 use lib.ListN.{length}
 use Rattle.rules.specs.Rules.{unless, filled}
-use Rattle.lists.specs.declared.Entry.{Entry}
-use Rattle.lists.specs.Entries.{entrySize, flat}
-use Rattle.lists.specs.Length.{lengthOf}
+use Rattle.entries.specs.declared.Entry.{Entry}
+use Rattle.entries.specs.Entries.{entrySize, flat}
+use Rattle.entries.specs.Length.{lengthOf}
 use Rattle.path.specs.declared.Drawn.{Drawn}
 use Rattle.path.specs.Path.{Path, pathRefusal}
 use Rattle.path.specs.Entries.{entries}

@@ -6,7 +6,7 @@ use Rattle.engine.specs.declared.Drawing.{Drawing}
 use Rattle.engine.specs.Registers.{Operation, halve, double, step}
 use Rattle.engine.specs.Drawing.{turned}
 use Rattle.engine.specs.Shown.{pixel}
-use Rattle.lists.specs.declared.Entry.{Entry}
+use Rattle.entries.specs.declared.Entry.{Entry}
 use Rattle.path.specs.Path.{Path, first}
 use Rattle.path.specs.Segment.{Turn, turns}
 

@@ -4,7 +4,7 @@ use Prim.Native.Nat.{ℕ, zero, suc, _+_, _*_, _^_}
 use lib.IntN.{pos, _+ℤ_}
 use lib.ListN.{take, drop}
 use Rattle.rules.specs.Rules.{degree, coordinates}
-use Rattle.lists.specs.declared.Entry.{Entry}
+use Rattle.entries.specs.declared.Entry.{Entry}
 use Rattle.path.specs.Path.{Path}
 use Rattle.path.specs.Entries.{entries}
 

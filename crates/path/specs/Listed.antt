@@ -13,9 +13,9 @@ use Rattle.engine.specs.Start.{started}
 use Rattle.engine.specs.Choice.{says, choice}
 use Rattle.distance.specs.Calls.{after, travelled}
 use Rattle.distance.specs.Demand3.{Demand3}
-use Rattle.lists.specs.declared.Entry.{Entry}
-use Rattle.lists.specs.Entries.{Each, Among, Linked, lastOf}
-use Rattle.lists.specs.Length.{lengthOf}
+use Rattle.entries.specs.declared.Entry.{Entry}
+use Rattle.entries.specs.Entries.{Each, Among, Linked, lastOf}
+use Rattle.entries.specs.Length.{lengthOf}
 use Rattle.path.specs.Path.{Path, pointAt, control}
 use Rattle.path.specs.Segment.{Turn, turns}
 use Rattle.path.specs.Entries.{entry, entries}

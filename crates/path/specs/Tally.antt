@@ -6,8 +6,8 @@ use lib.IntN.{ℤ}
 use lib.ListN.{length}
 use Rattle.rules.specs.Rules.{finest, degree, coordinates, mostSegments}
 use Rattle.engine.specs.Start.{startRefusal}
-use Rattle.lists.specs.declared.Entry.{Entry}
-use Rattle.lists.specs.Length.{moveLength}
+use Rattle.entries.specs.declared.Entry.{Entry}
+use Rattle.entries.specs.Length.{moveLength}
 use Rattle.path.specs.declared.Plan.{Plan}
 use Rattle.path.specs.declared.Tally.{Tally}
 use Rattle.path.specs.Path.{Path, path, control, first}

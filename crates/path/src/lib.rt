@@ -4,7 +4,7 @@ ghost use Prim.Native.Nat.{_+_, _*_, _^_, _≤_, _<_};
 ghost use lib.ListN.{length};
 ghost use lib.Seq.{sets};
 ghost use Rattle.rules.specs.Rules.{finest, standardUpper, standardLower, degree, coordinates, mostSegments};
-ghost use Rattle.lists.specs.Entries.{entrySize, numbers, flat};
+ghost use Rattle.entries.specs.Entries.{entrySize, numbers, flat};
 ghost use Rattle.path.specs.Path.{path, control, first};
 ghost use Rattle.path.specs.Entries.{entry, entries};
 ghost use Rattle.path.specs.Answer.{measureRefusal, refusedBy, measured, drawn, written};
@@ -12,7 +12,7 @@ ghost use Rattle.path.specs.Tally.{planned, Ready, begun, added, Small, 
 use engine::Control;
 use engine::Drawing;
 use engine::Next;
-use lists::Entry;
+use entries::Entry;
 use rules::STANDARD_LOWER;
 use rules::STANDARD_UPPER;
 
@@ -193,7 +193,7 @@ fn begin(points: &[i32], level: u32, list: &mut [i32]) -> Tally
 {
     let d = first_of(points, 0, level);
     let start = entry_of(d, 0);
-    lists::put(list, 0, start);
+    entries::put(list, 0, start);
     Tally {
         points: 1,
         length: 0,
@@ -208,7 +208,7 @@ fn show(t: Tally, d: Drawing, k: u32, list: &mut [i32]) -> Tally
     ensures { λ _. ⌜ now (list .exit) ≡ sets (now (list .entry)) (entrySize * t .points) (numbers (entry finest k d)) ⌝ }
 {
     let e = entry_of(d, k);
-    lists::put(list, 3 * (t.points as usize), e);
+    entries::put(list, 3 * (t.points as usize), e);
     add(t, e)
 }
 
@@ -216,7 +216,7 @@ fn add(t: Tally, e: Entry) -> Tally
     requires { ⌜ Small t ⌝ }
     ensures { λ r. ⌜ r ≡ added t e ⌝ }
 {
-    let moved = lists::move_length(t.last, e);
+    let moved = entries::move_length(t.last, e);
     Tally {
         points: t.points + 1,
         length: t.length + moved,

@@ -5,8 +5,9 @@ use mathlib.Core.List.{List, [], _∷_}
 use Prim.Native.Nat.{ℕ}
 use lib.Dec.{T}
 use lib.IntN.{ℤ, pos, negsuc}
-use Rattle.numbers.proofs.Tables.{All, tested}
-use Rattle.rules.specs.Rules.{finest, isCoordinate, areNeighbours, isLevel, areLimits, isSegments, isSize, arePoints, areBeside, areChained}
+use Rattle.numbers.specs.Tables.{All}
+use Rattle.numbers.proofs.Tables.{tested}
+use Rattle.rules.specs.Rules.{finest, reach, isCoordinate, areNeighbours, isLevel, areLimits, isSegments, isSize, arePoints, areBeside, areChained}
 
 pub data Rule : Type 0 where
   coordinate : ℤ → Rule
@@ -19,12 +20,12 @@ pub data Rule : Type 0 where
 
 abbrev pub keeps : Rule → Bool
 keeps (coordinate p) = isCoordinate p
-keeps (neighbours p p') = areNeighbours p p'
+keeps (neighbours p p') = areNeighbours reach p p'
 keeps (level n) = isLevel finest n
 keeps (limits upper lower) = areLimits upper lower
 keeps (size S numbers) = isSize S numbers
 keeps (points numbers) = arePoints numbers
-keeps (chained numbers) = areChained numbers
+keeps (chained numbers) = areChained reach numbers
 
 pub record Row : Type 0 where
   pub rule : Rule

@@ -33,24 +33,24 @@ unfolding arePoints
 points-end l i h = ap arePoints (drop-of-length-le l h)
 
 -- so do the numbers at i and at j, which stand beside each other
-module _ (l l' : List ℤ) (i j : ℕ) (h : i < length l) (k : j < length l') where
-  beside-head : areBeside (drop i l) (drop j l') ≡ (areNeighbours (getD l i (pos 0)) (getD l' j (pos 0)) && areBeside (drop (suc i) l) (drop (suc j) l'))
+module _ (W : ℕ) (l l' : List ℤ) (i j : ℕ) (h : i < length l) (k : j < length l') where
+  beside-head : areBeside W (drop i l) (drop j l') ≡ (areNeighbours W (getD l i (pos 0)) (getD l' j (pos 0)) && areBeside W (drop (suc i) l) (drop (suc j) l'))
   unfolding areBeside
-  beside-head = ap₂ areBeside (drop-cons l i (pos 0) h) (drop-cons l' j (pos 0) k)
+  beside-head = ap₂ (areBeside W) (drop-cons l i (pos 0) h) (drop-cons l' j (pos 0) k)
 
-  pub beside-stop : areNeighbours (getD l i (pos 0)) (getD l' j (pos 0)) ≡ false → areBeside (drop i l) (drop j l') ≡ false
-  beside-stop e = beside-head ∙ ap (λ (b : Bool). b && areBeside (drop (suc i) l) (drop (suc j) l')) e
+  pub beside-stop : areNeighbours W (getD l i (pos 0)) (getD l' j (pos 0)) ≡ false → areBeside W (drop i l) (drop j l') ≡ false
+  beside-stop e = beside-head ∙ ap (λ (b : Bool). b && areBeside W (drop (suc i) l) (drop (suc j) l')) e
 
-  pub beside-on : areNeighbours (getD l i (pos 0)) (getD l' j (pos 0)) ≡ true → areBeside (drop (i + 1) l) (drop (j + 1) l') ≡ areBeside (drop i l) (drop j l')
+  pub beside-on : areNeighbours W (getD l i (pos 0)) (getD l' j (pos 0)) ≡ true → areBeside W (drop (i + 1) l) (drop (j + 1) l') ≡ areBeside W (drop i l) (drop j l')
   beside-on e =
-      ap₂ (λ (m n : ℕ). areBeside (drop m l) (drop n l')) (add-one i) (add-one j)
-      ∙ sym (beside-head ∙ ap (λ (b : Bool). b && areBeside (drop (suc i) l) (drop (suc j) l')) e)
+      ap₂ (λ (m n : ℕ). areBeside W (drop m l) (drop n l')) (add-one i) (add-one j)
+      ∙ sym (beside-head ∙ ap (λ (b : Bool). b && areBeside W (drop (suc i) l) (drop (suc j) l')) e)
 
-pub beside-end : (l l' : List ℤ) (j : ℕ) → length l' ≤ j → areBeside l (drop j l') ≡ true
+pub beside-end : (W : ℕ) (l l' : List ℤ) (j : ℕ) → length l' ≤ j → areBeside W l (drop j l') ≡ true
 unfolding areBeside
-beside-end l l' j h = ap (areBeside l) (drop-of-length-le l' h) ∙ alone l
+beside-end W l l' j h = ap (areBeside W l) (drop-of-length-le l' h) ∙ alone l
   where
-    alone : (l : List ℤ) → areBeside l [] ≡ true
+    alone : (l : List ℤ) → areBeside W l [] ≡ true
     alone [] = refl
     alone (p ∷ l) = refl
 
@@ -67,34 +67,34 @@ unfolding arePoints
 hold-points [] h = refl
 hold-points (p ∷ l) h = ap₂ _&&_ (h 0 (zero-lt-suc (length l))) (hold-points l (λ i k. h (suc i) (omega (arith, k))))
 
-beside-hold : (l l' : List ℤ) → areBeside l l' ≡ true → (i : ℕ) → i < length l → i < length l'
-    → areNeighbours (getD l i (pos 0)) (getD l' i (pos 0)) ≡ true
+beside-hold : (W : ℕ) (l l' : List ℤ) → areBeside W l l' ≡ true → (i : ℕ) → i < length l → i < length l'
+    → areNeighbours W (getD l i (pos 0)) (getD l' i (pos 0)) ≡ true
 unfolding areBeside
-beside-hold [] l' e i h k = absurd (not-suc-le-zero h)
-beside-hold (p ∷ l) [] e i h k = absurd (not-suc-le-zero k)
-beside-hold (p ∷ l) (p' ∷ l') e zero h k = and-true (areNeighbours p p') (areBeside l l') e .0
-beside-hold (p ∷ l) (p' ∷ l') e (suc i) h k =
-    beside-hold l l' (and-true (areNeighbours p p') (areBeside l l') e .1) i (le-of-suc-le-suc h) (le-of-suc-le-suc k)
+beside-hold W [] l' e i h k = absurd (not-suc-le-zero h)
+beside-hold W (p ∷ l) [] e i h k = absurd (not-suc-le-zero k)
+beside-hold W (p ∷ l) (p' ∷ l') e zero h k = and-true (areNeighbours W p p') (areBeside W l l') e .0
+beside-hold W (p ∷ l) (p' ∷ l') e (suc i) h k =
+    beside-hold W l l' (and-true (areNeighbours W p p') (areBeside W l l') e .1) i (le-of-suc-le-suc h) (le-of-suc-le-suc k)
 
-hold-beside : (l l' : List ℤ) → ((i : ℕ) → i < length l → i < length l' → areNeighbours (getD l i (pos 0)) (getD l' i (pos 0)) ≡ true)
-    → areBeside l l' ≡ true
+hold-beside : (W : ℕ) (l l' : List ℤ) → ((i : ℕ) → i < length l → i < length l' → areNeighbours W (getD l i (pos 0)) (getD l' i (pos 0)) ≡ true)
+    → areBeside W l l' ≡ true
 unfolding areBeside
-hold-beside [] l' h = refl
-hold-beside (p ∷ l) [] h = refl
-hold-beside (p ∷ l) (p' ∷ l') h =
-    ap₂ _&&_ (h 0 (zero-lt-suc (length l)) (zero-lt-suc (length l'))) (hold-beside l l' (λ i j k. h (suc i) (omega (arith, j)) (omega (arith, k))))
+hold-beside W [] l' h = refl
+hold-beside W (p ∷ l) [] h = refl
+hold-beside W (p ∷ l) (p' ∷ l') h =
+    ap₂ _&&_ (h 0 (zero-lt-suc (length l)) (zero-lt-suc (length l'))) (hold-beside W l l' (λ i j k. h (suc i) (omega (arith, j)) (omega (arith, k))))
 
-pub chained-hold : (l : List ℤ) → areChained l ≡ true → (i : ℕ) → coordinates + i < length l
-    → areNeighbours (getD l i (pos 0)) (getD l (coordinates + i) (pos 0)) ≡ true
+pub chained-hold : (W : ℕ) (l : List ℤ) → areChained W l ≡ true → (i : ℕ) → coordinates + i < length l
+    → areNeighbours W (getD l i (pos 0)) (getD l (coordinates + i) (pos 0)) ≡ true
 unfolding areChained
-chained-hold l e i h =
+chained-hold W l e i h =
     let k : i < length (drop coordinates l) = rw length-drop (omega arith) in
-    rw getD-drop at (beside-hold l (drop coordinates l) e i (omega arith) k)
+    rw getD-drop at (beside-hold W l (drop coordinates l) e i (omega arith) k)
 
-pub hold-chained : (l : List ℤ)
-    → ((i : ℕ) → coordinates + i < length l → areNeighbours (getD l i (pos 0)) (getD l (coordinates + i) (pos 0)) ≡ true) → areChained l ≡ true
+pub hold-chained : (W : ℕ) (l : List ℤ)
+    → ((i : ℕ) → coordinates + i < length l → areNeighbours W (getD l i (pos 0)) (getD l (coordinates + i) (pos 0)) ≡ true) → areChained W l ≡ true
 unfolding areChained
-hold-chained l h = hold-beside l (drop coordinates l) each
+hold-chained W l h = hold-beside W l (drop coordinates l) each
   where
-    each : (i : ℕ) → i < length l → i < length (drop coordinates l) → areNeighbours (getD l i (pos 0)) (getD (drop coordinates l) i (pos 0)) ≡ true
+    each : (i : ℕ) → i < length l → i < length (drop coordinates l) → areNeighbours W (getD l i (pos 0)) (getD (drop coordinates l) i (pos 0)) ≡ true
     each i j k = rw getD-drop (h i (omega (arith, length-drop coordinates l)))

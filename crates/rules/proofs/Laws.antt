@@ -1,52 +1,16 @@
--- How tables of refusals are read, and what the rules say of the numbers that they accept.
-use mathlib.Core.Path.{_≡_, refl, ap₂}
-use mathlib.Core.Bool.{Bool, true, false, _&&_}
-use mathlib.Core.List.{List}
-use Prim.Native.Nat.{ℕ, zero, suc, _≤_}
+-- What the rules say of the numbers that they accept.
+use mathlib.Core.Path.{_≡_, ap₂}
+use mathlib.Core.Bool.{true, _&&_}
+use Prim.Native.Nat.{ℕ, _≤_}
 use native.Mathlib.Omega.{arith}
-use lib.Dec.{T, leb, eqb}
+use lib.Dec.{leb, eqb}
 use lib.IntN.{ℤ, pos, negsuc, _-ℤ_}
 use lib.Signed.{leZ, _≤ℤ_}
 use borrow.Author.Tests.{leb-true, eqb-true, le-leb, eq-eqb}
 use Rattle.numbers.proofs.Order.{leZ-true, le-leZ}
 use Rattle.numbers.proofs.Size.{Size}
 use Rattle.numbers.proofs.Tests.{and-true, and-three}
-use Rattle.rules.specs.Rules.{unless, firstOf, isAmong, Among, isCoordinate, areNeighbours, reach, areLimits, mostSegments, isSegments, pointNumbers, isSize}
-
--- ---- tables of refusals
-
--- a line that does not refuse
-pub rule-kept : (rule : Bool) (k rest : ℕ) → unless rule (suc k) rest ≡ 0 → (rule ≡ true) × (rest ≡ 0)
-rule-kept true k rest e = (refl, e)
-rule-kept false k rest e = let no : ⊥ = omega arith in absurd no
-
--- two tables one after the other
-pub first-kept : (k rest : ℕ) → firstOf k rest ≡ 0 → (k ≡ 0) × (rest ≡ 0)
-first-kept zero rest e = (refl, e)
-first-kept (suc k) rest e = let no : ⊥ = omega arith in absurd no
-
-pub first-on : (k rest : ℕ) → k ≡ 0 → firstOf k rest ≡ rest
-first-on zero rest e = refl
-first-on (suc k) rest e = let no : ⊥ = omega arith in absurd no
-
-pub first-stop : (k rest : ℕ) → (k ≡ 0 → ⊥) → firstOf k rest ≡ k
-first-stop zero rest h = absurd (h refl)
-first-stop (suc k) rest h = refl
-
-pub first-among : (k rest : ℕ) {table : List ℕ} → Among k table → Among rest table → Among (firstOf k rest) table
-first-among zero rest h t = t
-first-among (suc k) rest h t = h
-
--- each line's number is in the table
-pub line-among : (rule : Bool) {k rest : ℕ} {table : List ℕ} → Among k table → Among rest table → Among (unless rule k rest) table
-line-among true h t = t
-line-among false h t = h
-
--- a written number in a written table
-pub among : {k : ℕ} {table : List ℕ} → T (isAmong k table) → Among k table
-among t = record { is = t }
-
--- ---- numbers that are accepted
+use Rattle.rules.specs.Rules.{isCoordinate, areNeighbours, areLimits, mostSegments, isSegments, pointNumbers, isSize}
 
 pub coordinate-size : (p : ℤ) → isCoordinate p ≡ true → Size p 16384
 unfolding isCoordinate
@@ -63,9 +27,9 @@ pub range-coordinate : {p : ℤ} → negsuc 16383 ≤ℤ p → p ≤ℤ pos 1638
 unfolding isCoordinate
 range-coordinate h k = ap₂ _&&_ (le-leZ h) (le-leZ k)
 
-pub neighbours-size : (p p' : ℤ) → areNeighbours p p' ≡ true → Size (p' -ℤ p) reach
+pub neighbours-size : (W : ℕ) (p p' : ℤ) → areNeighbours W p p' ≡ true → Size (p' -ℤ p) W
 unfolding areNeighbours
-neighbours-size p p' e = record { le = leb-true _ reach e }
+neighbours-size W p p' e = record { le = leb-true _ W e }
 
 pub record Limits (upper lower : ℕ) : Type 0 where
   pub least : 1 ≤ upper

@@ -1,4 +1,5 @@
 -- Laws of the rules, for the crates that cite them.
+pub mod Refusals
 pub mod Laws
 pub mod Cases
 pub mod Every

@@ -1,33 +1,12 @@
--- What document 01 accepts, by its refusal numbers 1 to 4 and 14, and how a table of refusals is read.
-use mathlib.Core.Bool.{Bool, true, false, cond, _&&_, _||_}
-use mathlib.Core.List.{List, [], _∷_, _++_}
-use Prim.Native.Nat.{ℕ, zero, suc, _+_, _*_}
-use lib.Dec.{T, leb, eqb}
+-- What document 01 accepts, by its refusal numbers 1 to 4 and 14.
+use mathlib.Core.Bool.{Bool, true, _&&_}
+use mathlib.Core.List.{List, [], _∷_}
+use Prim.Native.Nat.{ℕ, _+_, _*_}
+use lib.Dec.{leb, eqb}
 use lib.IntN.{ℤ, pos, negsuc, natAbs, _-ℤ_}
 use lib.ListN.{length, drop}
 use lib.Signed.{leZ}
-
--- One line of a table of refusals: the number where the rule is broken, and else what the lines after it say. 0 is no refusal.
-abbrev pub unless : Bool → ℕ → ℕ → ℕ
-unless rule number rest = cond rule rest number
-
--- The first of two refusals, where the second's tests come after all of the first's.
-abbrev pub firstOf : ℕ → ℕ → ℕ
-firstOf zero rest = rest
-firstOf (suc k) rest = suc k
-
--- A lent buffer afterwards: the values from its front on, and then what stood after them; a refusal leaves it as found.
-abbrev pub filled : {A : Type 0} → ℕ → List A → List A → List A
-filled zero values buffer = values ++ drop (length values) buffer
-filled (suc k) values buffer = buffer
-
--- k is one of the numbers of a table
-abbrev pub isAmong : ℕ → List ℕ → Bool
-isAmong k [] = false
-isAmong k (x ∷ xs) = eqb k x || isAmong k xs
-
-pub record Among (k : ℕ) (table : List ℕ) : Type 0 where
-  pub is : T (isAmong k table)
+use Rattle.rules.specs.Refusals.{unless}
 
 -- the finest level
 abbrev pub finest : ℕ
@@ -37,12 +16,12 @@ finest = 11
 unfoldable pub isCoordinate : ℤ → Bool
 isCoordinate p = leZ (negsuc 16383) p && leZ p (pos 16383)
 
--- 2: neighbouring control points differ by at most 682 in a coordinate
+-- 2: neighbouring control points differ by at most W in a coordinate, of a cubic by at most 682
 abbrev pub reach : ℕ
 reach = 682
 
-unfoldable pub areNeighbours : ℤ → ℤ → Bool
-areNeighbours p p' = leb (natAbs (p' -ℤ p)) reach
+unfoldable pub areNeighbours : ℕ → ℤ → ℤ → Bool
+areNeighbours W p p' = leb (natAbs (p' -ℤ p)) W
 
 -- 3: a start level is from 0 to the finest
 unfoldable pub isLevel : ℕ → ℕ → Bool
@@ -79,6 +58,10 @@ pointNumbers S = coordinates * (degree * S + 1)
 unfoldable pub isSize : ℕ → ℕ → Bool
 isSize S numbers = isSegments S && eqb numbers (pointNumbers S)
 
+-- a path's two numbers before its points: 14 by its segments, then 3
+unfoldable pub headRefusal : ℕ → ℕ → ℕ → ℕ
+headRefusal F S n = unless (isSegments S) 14 (unless (isLevel F n) 3 0)
+
 -- ---- 1 and 2 over the points of a whole path, as numbers: x0, y0, x1, y1, ..
 
 -- 1: each number is a coordinate
@@ -87,11 +70,22 @@ arePoints [] = true
 arePoints (p ∷ ps) = isCoordinate p && arePoints ps
 
 -- numbers that stand beside each other in two lists are neighbours
-unfoldable pub areBeside : List ℤ → List ℤ → Bool
-areBeside [] ps' = true
-areBeside (p ∷ ps) [] = true
-areBeside (p ∷ ps) (p' ∷ ps') = areNeighbours p p' && areBeside ps ps'
+unfoldable pub areBeside : ℕ → List ℤ → List ℤ → Bool
+areBeside W [] ps' = true
+areBeside W (p ∷ ps) [] = true
+areBeside W (p ∷ ps) (p' ∷ ps') = areNeighbours W p p' && areBeside W ps ps'
 
 -- 2: each number and the same coordinate of the next point are neighbours
-unfoldable pub areChained : List ℤ → Bool
-areChained ps = areBeside ps (drop coordinates ps)
+unfoldable pub areChained : ℕ → List ℤ → Bool
+areChained W ps = areBeside W ps (drop coordinates ps)
+
+-- 1 over all points, then 2
+unfoldable pub pointsRefusal : ℕ → List ℤ → ℕ
+pointsRefusal W ps = unless (arePoints ps) 1 (unless (areChained W ps) 2 0)
+
+-- ---- numbers of a number list
+
+-- a count, a limit, segments or a level; one below 0 is larger than any rule allows
+abbrev pub natural : ℤ → ℕ
+natural (pos n) = n
+natural (negsuc n) = 4294967295

@@ -1,6 +1,6 @@
 // The rules that every room shares: refusals 1 to 4 and 14 of document 01, as tests of any numbers.
 ghost use mathlib.Core.Path.{_≡_};
-ghost use Rattle.rules.specs.Rules.{finest, isCoordinate, areNeighbours, isLevel, areLimits, isSegments, pointNumbers, isSize, arePoints, areChained};
+ghost use Rattle.rules.specs.Rules.{finest, reach, isCoordinate, areNeighbours, isLevel, areLimits, isSegments, pointNumbers, isSize, headRefusal, arePoints, areChained, pointsRefusal, natural};
 
 // The finest level: positions count 2^FINEST-ths of the parameter.
 pub const FINEST: u32 = 11;
@@ -9,6 +9,16 @@ pub const FINEST: u32 = 11;
 pub const STANDARD_UPPER: u32 = 65536;
 
 pub const STANDARD_LOWER: u32 = 32768;
+
+// Segment k has the points from DEGREE * k to DEGREE * k + DEGREE, of so many numbers each.
+pub const DEGREE: usize = 3;
+
+pub const COORDINATES: usize = 2;
+
+pub const MOST_SEGMENTS: u32 = 64;
+
+// The numbers of the points of MOST_SEGMENTS segments.
+pub const MOST_POINT_NUMBERS: usize = COORDINATES * (DEGREE * MOST_SEGMENTS as usize + 1);
 
 // 1 where it fails.
 pub fn coordinate(p: i32) -> bool
@@ -19,7 +29,7 @@ pub fn coordinate(p: i32) -> bool
 
 // 2 where it fails. Any two numbers may be asked: their difference is taken in 64 bits.
 pub fn neighbours(p: i32, q: i32) -> bool
-    ensures { λ r. ⌜ r ≡ areNeighbours p q ⌝ }
+    ensures { λ r. ⌜ r ≡ areNeighbours reach p q ⌝ }
 {
     let apart = (q as i64) - (p as i64);
     (-682 <= apart) & (apart <= 682)
@@ -43,14 +53,14 @@ pub fn limits(upper: u32, lower: u32) -> bool
 pub fn segments(count: u32) -> bool
     ensures { λ r. ⌜ r ≡ isSegments count ⌝ }
 {
-    (1 <= count) & (count <= 64)
+    (1 <= count) & (count <= MOST_SEGMENTS)
 }
 
 // How many numbers the points of so many segments are.
 pub fn point_numbers(count: u32) -> usize
     ensures { λ r. ⌜ r ≡ pointNumbers count ⌝ }
 {
-    2 * (3 * count as usize + 1)
+    COORDINATES * (DEGREE * count as usize + 1)
 }
 
 // 14 where it fails.
@@ -61,6 +71,19 @@ pub fn size(count: u32, numbers: usize) -> bool
         return false;
     }
     numbers == point_numbers(count)
+}
+
+// The refusal by a path's segments, 14, and by its start level, 3; 0 for none.
+pub fn head_refusal(count: u32, n: u32) -> u32
+    ensures { λ r. ⌜ r ≡ headRefusal finest count n ⌝ }
+{
+    if !segments(count) {
+        return 14;
+    }
+    if !level(n) {
+        return 3;
+    }
+    0
 }
 
 // 1 over a whole path's points where it fails.
@@ -79,10 +102,10 @@ pub fn points(numbers: &[i32]) -> bool
 
 // 2 over a whole path's points where it fails: j is the same coordinate as i, of the next point.
 pub fn chained(numbers: &[i32]) -> bool
-    ensures { λ r. ⌜ r ≡ areChained (now (numbers .entry)) ⌝ }
+    ensures { λ r. ⌜ r ≡ areChained reach (now (numbers .entry)) ⌝ }
 {
     let mut i: usize = 0;
-    let mut j: usize = 2;
+    let mut j = COORDINATES;
     while j < numbers.len() {
         if !neighbours(numbers[i], numbers[j]) {
             return false;
@@ -91,4 +114,24 @@ pub fn chained(numbers: &[i32]) -> bool
         j += 1;
     }
     true
+}
+
+// The refusal by a whole path's points: 1, then 2; 0 for none.
+pub fn points_refusal(numbers: &[i32]) -> u32
+    ensures { λ r. ⌜ r ≡ pointsRefusal reach (now (numbers .entry)) ⌝ }
+{
+    if !points(numbers) {
+        return 1;
+    }
+    if !chained(numbers) {
+        return 2;
+    }
+    0
+}
+
+// A count, a limit, segments or a level of a number list; one below 0 is larger than any rule allows.
+pub fn natural(z: i32) -> u32
+    ensures { λ r. ⌜ r ≡ natural z ⌝ }
+{
+    if z < 0 { 4294967295 } else { z as u32 }
 }

@@ -11,7 +11,7 @@ use lib.Dec.{ltb}
 use lib.IntN.{ℤ, pos, negsuc}
 use lib.ListN.{length, getD, drop, length-append}
 use lib.Seq.{getD-append-add, drop-cons}
-use Rattle.numbers.proofs.Tables.{All}
+use Rattle.numbers.specs.Tables.{All}
 use Rattle.sheet.specs.Bytes.{Bytes, Short, up, down, le16, le32, bits16, valueBytes, u16At, u32At, signed16, i16At, valuesAt}
 
 pub length-values : (zs : List ℤ) → length (valueBytes zs) ≡ 2 * length zs

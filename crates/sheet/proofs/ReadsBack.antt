@@ -5,7 +5,7 @@ use Prim.Native.Nat.{ℕ, _+_, _≤_}
 use native.Mathlib.Omega.{arith}
 use borrow.Author.Tests.{le-leb, eq-eqb}
 use lib.ListN.{length, length-append}
-use Rattle.numbers.proofs.Tables.{All}
+use Rattle.numbers.specs.Tables.{All}
 use Rattle.rules.proofs.Laws.{first-on, limits-hold, Sized, size-holds}
 use Rattle.sheet.specs.Bytes.{le16, le32, valueBytes, u16At, u32At, valuesAt}
 use Rattle.sheet.specs.Sheet.{Target, Sheet, headSize, recordBytes, records, offsets, sheetBytes, mostBytes, RightPath, Right}

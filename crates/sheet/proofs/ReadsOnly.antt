@@ -5,7 +5,7 @@ use Prim.Native.Nat.{ℕ, zero, suc, _+_, _≤_}
 use native.Mathlib.Nat.{zero-add, add-zero}
 use native.Mathlib.Omega.{arith}
 use lib.ListN.{length, drop, drop-of-length-le}
-use Rattle.numbers.proofs.Tables.{All}
+use Rattle.numbers.specs.Tables.{All}
 use Rattle.rules.specs.Rules.{pointNumbers}
 use Rattle.rules.proofs.Laws.{first-kept}
 use Rattle.sheet.specs.Bytes.{Bytes, le16, le32, u16At, u32At}

@@ -9,7 +9,8 @@ use lib.Dec.{leb}
 use lib.IntN.{ℤ, pos, negsuc}
 use lib.ListN.{length, length-append}
 use Rattle.numbers.proofs.Tests.{and-true}
-use Rattle.numbers.proofs.Tables.{All, all-append}
+use Rattle.numbers.specs.Tables.{All}
+use Rattle.numbers.proofs.Tables.{all-append}
 use Rattle.rules.specs.Rules.{finest, isCoordinate, isLevel, arePoints, mostSegments, isSegments}
 use Rattle.rules.proofs.Laws.{coordinate-size, size-holds}
 use Rattle.sheet.specs.Bytes.{Short, up, down, le16, bits16, valueBytes}

@@ -8,7 +8,7 @@ use borrow.Author.Tests.{le-leb}
 use lib.IntN.{ℤ, pos}
 use lib.ListN.{length, drop, length-append, length-drop}
 use lib.Seq.{take-append-seam, drop-append-seam, getD-drop, drop-drop}
-use Rattle.numbers.proofs.Tables.{All}
+use Rattle.numbers.specs.Tables.{All}
 use Rattle.rules.specs.Rules.{pointNumbers}
 use Rattle.rules.proofs.Laws.{first-on, size-holds}
 use Rattle.sheet.specs.Sheet.{Target, Sheet, pathNumbers, sheetNumbers, RightPath, Right}

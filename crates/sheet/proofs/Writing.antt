@@ -14,7 +14,7 @@ use lib.Seq.{length-take-le, drop-cons, drop-drop}
 use mir.Syntax.{w32}
 use mir.Val.{toZ, ofZ}
 use mir.Facts.{toZ-ofZ}
-use Rattle.numbers.proofs.Tables.{All}
+use Rattle.numbers.specs.Tables.{All}
 use Rattle.rules.specs.Rules.{firstOf, finest, isLevel, areLimits, pointNumbers}
 use Rattle.rules.proofs.Laws.{rule-kept, first-kept, first-on, first-stop, size-holds}
 use Rattle.sheet.specs.Bytes.{Short, le32, valueBytes}

@@ -5,7 +5,7 @@ use mathlib.Core.List.{List, [], _∷_, _++_}
 use Prim.Native.Nat.{ℕ, _+_, _*_, _≤_}
 use lib.IntN.{ℤ, pos}
 use lib.ListN.{length}
-use Rattle.numbers.proofs.Tables.{All}
+use Rattle.numbers.specs.Tables.{All}
 use Rattle.rules.specs.Rules.{finest, isLevel, areLimits, isSize, arePoints, areChained}
 use Rattle.sheet.specs.Bytes.{le16, le32, valueBytes}
 

@@ -3,7 +3,7 @@ ghost use mathlib.Core.Path.{_≡_};
 ghost use Prim.Native.Nat.{_+_, _*_, _≤_, _<_};
 ghost use lib.ListN.{length, drop};
 ghost use lib.Seq.{sets};
-ghost use Rattle.numbers.proofs.Tables.{All};
+ghost use Rattle.numbers.specs.Tables.{All};
 ghost use Rattle.sheet.specs.Bytes.{Short, le16, le32, bits16, valueBytes, u16At, u32At, i16At, valuesAt};
 ghost use Rattle.sheet.specs.Sheet.{headSize, mostPaths, mostBytes, offsets, sheetBytes, sheetNumbers};
 ghost use Rattle.sheet.specs.Reading.{pointsRefusal, bodyRefusal, recordRefusal, recordsRefusal, sheetRefusal, sheetAt};

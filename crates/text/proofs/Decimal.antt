@@ -11,7 +11,8 @@ use lib.Dec.{ltb}
 use lib.IntN.{ℤ, pos, negsuc, natAbs}
 use lib.ListN.{length, length-append}
 use Rattle.io.specs.Digits.{digits, Fewest}
-use Rattle.numbers.proofs.Tables.{All, all-append}
+use Rattle.numbers.specs.Tables.{All}
+use Rattle.numbers.proofs.Tables.{all-append}
 use Rattle.text.specs.Decimal.{digit, decimalIn, decimal, numeral, valueAfter, value, negative, numberOf}
 
 -- ---- the equations without fuel

@@ -2,7 +2,7 @@
 use Prim.Native.Nat.{_+_}
 use native.Mathlib.Omega.{arith}
 use borrow.Author.Needs.{needs}
-use Rattle.lists.proofs.Laws.{move-most}
+use Rattle.entries.proofs.Laws.{move-most}
 use Rattle.path.specs.Tally.{added}
 use Rattle.path.proofs.add.Statement.{statement}
 use Rattle.path.proofs.add.Tie as tie

@@ -5,8 +5,8 @@ use lib.Seq.{sets}
 use borrow.Author.Needs.{needs}
 use Rattle.rules.specs.Rules.{finest}
 use Rattle.engine.specs.declared.Drawing.{Drawing}
-use Rattle.lists.specs.declared.Entry.{Entry}
-use Rattle.lists.specs.Entries.{numbers}
+use Rattle.entries.specs.declared.Entry.{Entry}
+use Rattle.entries.specs.Entries.{numbers}
 use Rattle.path.specs.Path.{first}
 use Rattle.path.specs.Entries.{entry}
 use Rattle.path.specs.Tally.{begun}

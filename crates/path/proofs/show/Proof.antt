@@ -3,8 +3,8 @@ use mathlib.Core.Path.{ap, _∙_}
 use Prim.Native.Nat.{_*_}
 use lib.Seq.{sets}
 use borrow.Author.Needs.{needs}
-use Rattle.lists.specs.declared.Entry.{Entry}
-use Rattle.lists.specs.Entries.{entrySize, numbers}
+use Rattle.entries.specs.declared.Entry.{Entry}
+use Rattle.entries.specs.Entries.{entrySize, numbers}
 use Rattle.path.specs.Tally.{added}
 use Rattle.path.proofs.show.Statement.{statement}
 use Rattle.path.proofs.show.Tie as tie

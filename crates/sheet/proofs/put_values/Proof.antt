@@ -11,7 +11,7 @@ use mir.Syntax.{w32}
 use mir.Val.{toZ, ofZ}
 use mir.Facts.{toZ-ofZ}
 use Rattle.numbers.proofs.Buffers.{Ahead, here, then, stored, stored-all}
-use Rattle.numbers.proofs.Tables.{All}
+use Rattle.numbers.specs.Tables.{All}
 use Rattle.sheet.specs.Bytes.{Short, le16, bits16, valueBytes}
 use Rattle.sheet.proofs.put_values.Statement.{statement}
 use Rattle.sheet.proofs.put_values.Tie as tie

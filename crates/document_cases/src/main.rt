@@ -1,0 +1,154 @@
+// Runs the worked cases of document 01 through the public functions of the path and of the engine, and prints the numbers that the
+// document gives.
+use engine::Control;
+use engine::Drawing;
+use engine::Moved;
+use engine::Registers;
+use entries::Found;
+use path::Drawn;
+
+const OUT: i32 = 1;
+
+fn main() {
+    totals(b"A", listing(b"A", curve(0, 1, 2, 3), 0));
+    listing(b"B", curve(3, 2, 1, 0), 0);
+    operations(curve(0, 0, 0, 8));
+    steep(b"G", 1, 7);
+    steep(b"H", -1, 4);
+    verdict(b"I", start(kink(682), 0).refusal);
+    verdict(b"I", start(kink(683), 0).refusal);
+    verdict(b"J", start(flat(0), 11).refusal);
+    verdict(b"J", start(flat(0), 12).refusal);
+    verdict(b"J", start(flat(16383), 0).refusal);
+    verdict(b"J", start(flat(16384), 0).refusal);
+    listing(b"K", flat(5), 5);
+    listing(b"L", curve(0, 0, 0, 8), 0);
+    let m = start(curve(0, 0, 0, 8), 1).drawing.step();
+    position(b"M", m.drawing.q);
+    verdict(b"M", m.drawing.double().refusal);
+}
+
+// ---- the curves: x as given, y 0 throughout
+
+fn curve(p0: i32, p1: i32, p2: i32, p3: i32) -> Control {
+    Control {
+        p0: p0,
+        p1: p1,
+        p2: p2,
+        p3: p3,
+    }
+}
+
+fn flat(p: i32) -> Control {
+    curve(p, p, p, p)
+}
+
+fn kink(p: i32) -> Control {
+    curve(0, p, p, p)
+}
+
+fn start(x: Control, level: u32) -> Moved {
+    Drawing::start(x, flat(0), level)
+}
+
+// Cases C to F.
+fn operations(x: Control) {
+    let c = start(x, 0);
+    let d = c.drawing.halve();
+    let d2 = d.drawing.halve();
+    let e = d2.drawing.double();
+    let f = d2.drawing.step();
+    registers(b"C", c.drawing.x, 15);
+    registers(b"D", d.drawing.x, 7);
+    registers(b"D", d2.drawing.x, 7);
+    registers(b"E", e.drawing.x, 7);
+    registers(b"F", f.drawing.x, 14);
+    position(b"F", f.drawing.q);
+}
+
+// Cases G and H: 0, 0, 0, p at level 9, and stepped.
+fn steep(name: &[u8], p: i32, given: u32) {
+    let m = start(curve(0, 0, 0, p), 9);
+    registers(name, m.drawing.x, given);
+    registers(name, m.drawing.step().drawing.x, 14);
+}
+
+// Cases A, B, K and L: a path of one segment, drawn; its positions and its x.
+fn listing(name: &[u8], x: Control, level: u32) -> Drawn {
+    let points = [x.p0, 0, x.p1, 0, x.p2, 0, x.p3, 0];
+    let mut list = [0i32; 64];
+    let drawn = path::draw(&points, 1, level, 65536, 32768, &mut list);
+    column(name, b" positions", &list, drawn.points, false);
+    column(name, b" x", &list, drawn.points, true);
+    drawn
+}
+
+// ---- lines
+
+// The positions of a list's entries, or their x.
+fn column(name: &[u8], label: &[u8], list: &[i32], points: u32, of_x: bool) {
+    io::write_all(OUT, name);
+    io::write_all(OUT, label);
+    let mut i: u32 = 0;
+    while i < points {
+        let Found::Here(e) = entries::entry_at(list, i as usize) else {
+            break;
+        };
+        signed(b" ", if of_x { e.x } else { e.position });
+        i += 1;
+    }
+    io::write_all(OUT, b"\n");
+}
+
+fn totals(name: &[u8], drawn: Drawn) {
+    io::write_all(OUT, name);
+    io::write_all(OUT, b" points ");
+    io::print_decimal(OUT, drawn.points as u64);
+    io::write_all(OUT, b" length ");
+    io::print_decimal(OUT, drawn.length as u64);
+    io::write_all(OUT, b"\n");
+}
+
+// The registers a, b, c, d that the bits 1, 2, 4, 8 of given ask for.
+fn registers(name: &[u8], r: Registers, given: u32) {
+    io::write_all(OUT, name);
+    if given % 2 == 1 {
+        signed(b" a ", r.a);
+    }
+    if given / 2 % 2 == 1 {
+        signed(b" b ", r.b);
+    }
+    if given / 4 % 2 == 1 {
+        signed(b" c ", r.c);
+    }
+    if given / 8 % 2 == 1 {
+        signed(b" d ", r.d);
+    }
+    io::write_all(OUT, b"\n");
+}
+
+fn position(name: &[u8], q: u32) {
+    io::write_all(OUT, name);
+    io::write_all(OUT, b" q ");
+    io::print_decimal(OUT, q as u64);
+    io::write_all(OUT, b"\n");
+}
+
+fn verdict(name: &[u8], refusal: u32) {
+    io::write_all(OUT, name);
+    if refusal == 0 {
+        io::write_all(OUT, b" accepted\n");
+        return;
+    }
+    io::write_all(OUT, b" refused ");
+    io::print_decimal(OUT, refusal as u64);
+    io::write_all(OUT, b"\n");
+}
+
+fn signed(label: &[u8], v: i32) {
+    io::write_all(OUT, label);
+    if v < 0 {
+        io::write_all(OUT, b"-");
+    }
+    io::print_decimal(OUT, words::magnitude(v as i64));
+}

@@ -1,0 +1,24 @@
+-- A store inside the list is the kit's `set`; past its end `set` changes nothing either.
+use mathlib.Core.Path.{sym}
+use lib.Seq.{set-out}
+use borrow.Author.Needs.{needs}
+use Rattle.entries.proofs.store.Statement.{statement}
+use Rattle.entries.proofs.store.Tie as tie
+
+mul-v : tie.Need-mul-v
+mul-v c = search needs
+
+slice-set-from-v : tie.Need-slice-set-from-v
+slice-set-from-v c = search needs
+
+same-length : tie.Need-same-length
+same-length c = search needs
+
+returns : tie.Need-returns
+returns c = search needs
+
+returns-2 : tie.Need-returns-2
+returns-2 c = sym (set-out _ _ _ (c .if1 .left))
+
+pub store-spec : {M : Type 1} → statement M
+store-spec = tie.close (tie.spec mul-v slice-set-from-v same-length returns returns-2)

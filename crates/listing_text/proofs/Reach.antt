@@ -1,0 +1,87 @@
+-- Parts of a list that are cut where the list ends: what is read of a number list that may be too short.
+use mathlib.Core.Path.{_≡_, refl, sym, ap, _∙_}
+use mathlib.Core.Bool.{true, false}
+use mathlib.Core.List.{List}
+use Prim.Native.Nat.{ℕ, _+_, _*_, _-_, _≤_, _<_, min}
+use native.Mathlib.Nat.{min-eq-left, min-eq-right, add-sub-cancel-left}
+use native.Mathlib.Omega.{arith}
+use borrow.Author.Tests.{leb-true, leb-false}
+use lib.Dec.{leb}
+use lib.ListN.{length, take, drop, length-drop, drop-of-length-le}
+use lib.IntN.{ℤ}
+use lib.Seq.{take-all, take-nil}
+use Rattle.rules.specs.Rules.{degree, coordinates, pointNumbers}
+use Rattle.path.specs.Path.{Path, path}
+use Rattle.path.specs.Joined.{alone}
+use Rattle.path.proofs.Turns.{by-test}
+use Rattle.sheet.specs.Writing.{numberAt, pathAt, pathEnd, sheetOf}
+use Rattle.listing_text.specs.Pieces.{pathIn}
+
+cut : (a m : ℕ) → m ≤ a → min a m ≡ m
+cut a m h = min-eq-right h
+
+-- cut twice is cut once
+pub cut-again : (a n m : ℕ) → min (min a m + n) m ≡ min (a + n) m
+cut-again a n m = by-test (leb a m) (λ e. rw (min-eq-left (leb-true a m e))) past
+  where
+    past : leb a m ≡ false → min (min a m + n) m ≡ min (a + n) m
+    past e =
+        let far = leb-false a m e in
+        rw (cut a m (omega (arith, far)), cut (m + n) m (omega arith), cut (a + n) m (omega (arith, far)))
+
+module _ {A : Type 0} (l : List A) (a n : ℕ) where
+  whole : a ≤ length l → length l < a + n → take (length l - a) (drop a l) ≡ take n (drop a l)
+  whole h k =
+      let e = length-drop a l in
+      take-all (length l - a) (drop a l) (omega (arith, e)) ∙ sym (take-all n (drop a l) (omega (arith, e)))
+
+  -- n values from place a on, as far as l reaches
+  pub part-reached : take (min (a + n) (length l) - min a (length l)) (drop (min a (length l)) l) ≡ take n (drop a l)
+  part-reached = by-test (leb a (length l)) inside past
+    where
+      m : ℕ
+      m = length l
+
+      inside : leb a m ≡ true → take (min (a + n) m - min a m) (drop (min a m) l) ≡ take n (drop a l)
+      inside e =
+          let h = leb-true a m e in
+          rw (min-eq-left h)
+          (by-test (leb (a + n) m)
+          (λ f. rw (min-eq-left (leb-true (a + n) m f), add-sub-cancel-left a n))
+          (λ f. let k = leb-false (a + n) m f in rw (cut (a + n) m (omega (arith, k))) (whole h k)))
+
+      past : leb a m ≡ false → take (min (a + n) m - min a m) (drop (min a m) l) ≡ take n (drop a l)
+      past e =
+          let far = leb-false a m e in
+          let none = drop-of-length-le l {i = a} (omega (arith, far)) in
+          rw (cut a m (omega (arith, far)), drop-of-length-le l {i = m} (omega arith), none, take-nil n)
+          (take-nil (min (a + n) m - m))
+
+-- ---- what the code cuts out of a number list
+
+-- the points of segment k of a path's points
+pub segment-part : (points : List ℤ) (k level upper lower from to : ℕ)
+    → from ≡ min (6 * k) (length points) → to ≡ min (from + 8) (length points)
+    → path (take (to - from) (drop from points)) 1 level upper lower ≡ alone (path points 1 level upper lower) k
+unfolding alone
+segment-part points k level upper lower from to f t =
+    let start : 6 * k ≡ coordinates * (degree * k) = omega arith in
+    rw (t, f, cut-again (6 * k) 8 (length points), part-reached points (6 * k) 8, start)
+
+-- the path whose numbers start at `at`, by the numbers read one by one
+module _ (l : List ℤ) (at : ℕ) {from to : ℕ} (f : from ≡ min (at + 2) (length l)) (t : to ≡ min (pathEnd l at) (length l)) where
+  points-read : take (to - from) (drop from l) ≡ pathAt l at .points
+  unfolding pathAt
+  points-read = rw (t, f, part-reached l (at + 2) (pointNumbers (numberAt l at)))
+
+  pub path-by-numbers : {S level upper lower : ℕ}
+      → S ≡ numberAt l at → level ≡ numberAt l (at + 1) → upper ≡ numberAt l 1 → lower ≡ numberAt l 2
+      → path (take (to - from) (drop from l)) S level upper lower ≡ pathIn l at
+  unfolding pathAt sheetOf
+  path-by-numbers s n u o = rw (points-read, s, n, u, o)
+
+  -- a segment of it, for which the number of segments does not matter
+  pub segment-by-numbers : (k : ℕ) {level upper lower : ℕ} → level ≡ numberAt l (at + 1) → upper ≡ numberAt l 1 → lower ≡ numberAt l 2
+      → alone (path (take (to - from) (drop from l)) 1 level upper lower) k ≡ alone (pathIn l at) k
+  unfolding alone
+  segment-by-numbers k n u o = ap (λ (p : Path). alone p k) (path-by-numbers refl n u o)

@@ -1,0 +1,79 @@
+-- The numbers of the path are read where they stand, and its points as far as the list reaches.
+use mathlib.Core.Path.{ap, _∙_}
+use lib.ListN.{length}
+use Rattle.rules.specs.Rules.{finest}
+use Rattle.path.specs.Path.{Path}
+use Rattle.path.specs.Answer.{drawn, written}
+use Rattle.listing_text.proofs.Reach.{segment-by-numbers}
+use borrow.Author.Needs.{needs}
+use Rattle.listing_text.proofs.draw_segment.Statement.{statement}
+use Rattle.listing_text.proofs.draw_segment.Tie as tie
+
+points-start-requires : tie.Need-points-start-requires
+points-start-requires c κs = search needs
+
+points-end-requires : tie.Need-points-end-requires
+points-end-requires c κs = search needs
+
+add-number-at : tie.Need-add-number-at
+add-number-at c = search needs
+
+number-at-requires : tie.Need-number-at-requires
+number-at-requires c κs = search needs
+
+number-at-requires-2 : tie.Need-number-at-requires-2
+number-at-requires-2 c κs = search needs
+
+number-at-requires-3 : tie.Need-number-at-requires-3
+number-at-requires-3 c κs = search needs
+
+mul-draw-alone : tie.Need-mul-draw-alone
+mul-draw-alone c = search needs
+
+sub-draw-alone : tie.Need-sub-draw-alone
+sub-draw-alone c = search needs
+
+part-draw-alone-start : tie.Need-part-draw-alone-start
+part-draw-alone-start c = search needs
+
+part-draw-alone-end : tie.Need-part-draw-alone-end
+part-draw-alone-end c = search needs
+
+draw-alone-requires : tie.Need-draw-alone-requires
+draw-alone-requires c κs = search needs
+
+same-length : tie.Need-same-length
+same-length c = search needs
+
+returns : tie.Need-returns
+returns c =
+    let d = c .before in
+    let lower = d .before .before .before in
+    let upper = lower .before in
+    let level = upper .before in
+    let to = level .before in
+    let a = to .before .before .args in
+    let same =
+    segment-by-numbers (a .numbers .now) (a .place .at) (to .before .points-start .ensures)
+    (to .points-end .ensures) (a .place .segment) (level .number-at .ensures) (upper .number-at2 .ensures) (lower .number-at3 .ensures) in
+    let l = a .list .now in
+    let answer = ap (λ (p : Path). drawn finest p (length l)) same in
+    (d .draw-alone .ensures .0 ∙ answer, d .draw-alone .ensures .1 ∙ ap (λ (p : Path). written finest p l) same)
+
+pub draw-segment-spec : {M : Type 1} → statement M
+draw-segment-spec =
+    tie.close
+    (tie.spec
+    points-start-requires
+    points-end-requires
+    add-number-at
+    number-at-requires
+    number-at-requires-2
+    number-at-requires-3
+    mul-draw-alone
+    sub-draw-alone
+    part-draw-alone-start
+    part-draw-alone-end
+    draw-alone-requires
+    same-length
+    returns)

@@ -1,0 +1,39 @@
+-- The text that a sheet is listed by: "paths N"; for each path its line, and a line for each entry. A refused sheet has one line.
+use mathlib.Core.List.{List, [], _∷_, _++_}
+use Prim.Native.Nat.{ℕ, zero, suc, _+_}
+use lib.ListN.{length}
+use Rattle.rules.specs.Rules.{finest}
+use Rattle.path.specs.Path.{Path, path}
+use Rattle.path.specs.Entries.{entries}
+use Rattle.path.specs.Answer.{measured}
+use Rattle.sheet.specs.Sheet.{Target, Sheet}
+use Rattle.sheet.specs.Reading.{sheetAt, sheetRefusal}
+use Rattle.listing_text.specs.declared.Output.{Output}
+use Rattle.listing_text.specs.Lines.{pathsLine, pathLine, entryLines, refusedLine}
+
+-- a path of a sheet, under the sheet's limits
+abbrev pub pathOf : Sheet → Target → Path
+pathOf s t = path (t .points) (t .segments) (t .level) (s .upper) (s .lower)
+
+unfoldable pub pathText : ℕ → Path → List ℕ
+pathText i p = pathLine i (measured finest p) ++ entryLines (entries finest p)
+
+-- paths of s, the first of them path i
+unfoldable pub pathsText : Sheet → ℕ → List Target → List ℕ
+pathsText s i [] = []
+pathsText s i (t ∷ ts) = pathText i (pathOf s t) ++ pathsText s (i + 1) ts
+
+unfoldable pub sheetText : Sheet → List ℕ
+sheetText s = pathsLine (length (s .paths)) ++ pathsText s 0 (s .paths)
+
+abbrev pub listed : ℕ → Sheet → List ℕ
+listed zero s = sheetText s
+listed (suc k) s = refusedLine (suc k)
+
+-- the listing of the bytes of standard input
+unfoldable pub listing : List ℕ → List ℕ
+listing b = listed (sheetRefusal b) (sheetAt b)
+
+-- what printing it answers: by what number the sheet is refused, and how many bytes were printed
+unfoldable pub output : List ℕ → Output
+output b = record { refusal = sheetRefusal b; count = length (listing b) }

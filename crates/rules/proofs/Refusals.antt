@@ -1,0 +1,70 @@
+-- How tables of refusals are read, and the two ways of an answer: a refusal, or else the answer.
+use mathlib.Core.Path.{_≡_, refl, sym, ap, _∙_}
+use mathlib.Core.Bool.{Bool, true, false}
+use mathlib.Core.List.{List}
+use Prim.Native.Nat.{ℕ, zero, suc}
+use native.Mathlib.Omega.{arith}
+use lib.Dec.{T}
+use Rattle.rules.specs.Refusals.{unless, firstOf, refusalOr, isAmong, Among}
+
+-- ---- one line of a table
+
+-- that does not refuse
+pub rule-kept : (rule : Bool) (k rest : ℕ) → unless rule (suc k) rest ≡ 0 → (rule ≡ true) × (rest ≡ 0)
+rule-kept true k rest e = (refl, e)
+rule-kept false k rest e = let no : ⊥ = omega arith in absurd no
+
+-- each line's number is in the table
+pub line-among : (rule : Bool) {k rest : ℕ} {table : List ℕ} → Among k table → Among rest table → Among (unless rule k rest) table
+line-among true h t = t
+line-among false h t = h
+
+-- a written number in a written table
+pub among : {k : ℕ} {table : List ℕ} → T (isAmong k table) → Among k table
+among t = record { is = t }
+
+-- ---- one table and then another
+
+pub first-kept : (k rest : ℕ) → firstOf k rest ≡ 0 → (k ≡ 0) × (rest ≡ 0)
+first-kept zero rest e = (refl, e)
+first-kept (suc k) rest e = let no : ⊥ = omega arith in absurd no
+
+pub first-on : (k rest : ℕ) → k ≡ 0 → firstOf k rest ≡ rest
+first-on zero rest e = refl
+first-on (suc k) rest e = let no : ⊥ = omega arith in absurd no
+
+pub first-stop : (k rest : ℕ) → (k ≡ 0 → ⊥) → firstOf k rest ≡ k
+first-stop zero rest h = absurd (h refl)
+first-stop (suc k) rest h = refl
+
+pub first-among : (k rest : ℕ) {table : List ℕ} → Among k table → Among rest table → Among (firstOf k rest) table
+first-among zero rest h t = t
+first-among (suc k) rest h t = h
+
+-- ---- a refusal, or else the answer
+
+module _ {A : Type 0} (refused : ℕ → A) (answer : A) where
+  pub answers : {k : ℕ} → k ≡ 0 → refusalOr k refused answer ≡ answer
+  answers e = ap (λ (k : ℕ). refusalOr k refused answer) e
+
+  -- where a table refused by k
+  pub refuses : {k j : ℕ} → k ≡ j → (k ≡ 0 → ⊥) → refused k ≡ refusalOr j refused answer
+  refuses {k} e h = stops k h ∙ ap (λ (i : ℕ). refusalOr i refused answer) e
+    where
+      stops : (k : ℕ) → (k ≡ 0 → ⊥) → refused k ≡ refusalOr k refused answer
+      stops zero h = absurd (h refl)
+      stops (suc k) h = refl
+
+  -- the number that is answered
+  module _ (number : A → ℕ) (says : (k : ℕ) → number (refused k) ≡ k) (none : number answer ≡ 0) where
+    pub number-answered : (k : ℕ) → number (refusalOr k refused answer) ≡ k
+    number-answered zero = none
+    number-answered (suc k) = says (suc k)
+
+    -- what is answered under a refusal
+    pub refused-answers : (k : ℕ) → (number (refusalOr k refused answer) ≡ 0 → ⊥) → refusalOr k refused answer ≡ refused k
+    refused-answers k h = sym (refuses refl (λ e. h (number-answered k ∙ e)))
+
+    -- and where there is none
+    pub accepted-answers : (k : ℕ) → number (refusalOr k refused answer) ≡ 0 → refusalOr k refused answer ≡ answer
+    accepted-answers k e = answers (sym (number-answered k) ∙ e)
