@@ -1,45 +1,37 @@
--- The two ways of an answer: a refusal, and what comes where there is none.
-use mathlib.Core.Path.{_≡_, refl, ap, _∙_}
+-- The two ways of a call and of choosing: a refusal, and what comes where there is none.
+use mathlib.Core.Path.{_≡_, sym, ap, _∙_}
 use mathlib.Core.Bool.{true}
-use mathlib.Core.Option.{none}
-use Prim.Native.Nat.{ℕ, zero, suc}
+use Prim.Native.Nat.{ℕ}
 use Rattle.rules.specs.Rules.{areLimits}
-use Rattle.rules.proofs.Laws.{rule-kept}
+use Rattle.rules.proofs.Refusals.{rule-kept, first-kept, first-on, first-stop, refuses}
+use Rattle.coordinate.specs.declared.Registers.{Registers}
+use Rattle.coordinate.specs.Registers.{Operation, turn}
 use Rattle.engine.specs.declared.Drawing.{Drawing}
-use Rattle.engine.specs.Registers.{Operation}
-use Rattle.engine.specs.Drawing.{ownRefusal, gated, callRefusal, turned, refused, landed, answered, called}
-use Rattle.engine.specs.Choice.{chosen, replied, choiceRefusal, choice}
+use Rattle.engine.specs.declared.Moved.{Moved}
+use Rattle.engine.specs.Drawing.{gate, ownRefusal, callRefusal, registersRefusal, newLevel, newPosition, turned, refused, moved, landed, called}
+use Rattle.engine.specs.Choice.{choiceRefusal}
 use Rattle.engine.proofs.Gates.{Open, opens}
 
-pub call-refused : (F : ℕ) (op : Operation) (d : Drawing) {k : ℕ} → k ≡ callRefusal F op (d .level) (d .q) → (k ≡ 0 → ⊥)
-    → refused k d ≡ called F op d
+pub call-refused : (F : ℕ) (op : Operation) (d : Drawing) {k : ℕ} → k ≡ callRefusal F op (d .level) (d .q) → (k ≡ 0 → ⊥) → refused d k ≡ called F op d
 unfolding called
-call-refused F op d {k} e h = shut k h ∙ ap (λ (j : ℕ). answered j d (turned F op d)) e
-  where
-    shut : (k : ℕ) → (k ≡ 0 → ⊥) → refused k d ≡ answered k d (turned F op d)
-    shut zero h = absurd (h refl)
-    shut (suc k) h = refl
+call-refused F op d e h = refuses (refused d) _ (e ∙ sym (first-stop _ (registersRefusal (turned F op d)) (λ z. h (e ∙ z)))) h
 
-pub call-landed : (F : ℕ) (op : Operation) (d : Drawing) → callRefusal F op (d .level) (d .q) ≡ 0
-    → called F op d ≡ landed d (turned F op d)
-unfolding called
-call-landed F op d e = ap (λ (j : ℕ). answered j d (turned F op d)) e
+call-landed : (F : ℕ) (op : Operation) (d : Drawing) → callRefusal F op (d .level) (d .q) ≡ 0 → called F op d ≡ landed d (turned F op d)
+unfolding called landed
+call-landed F op d e = ap (λ (k : ℕ). moved k d (turned F op d)) (first-on _ (registersRefusal (turned F op d)) e)
+
+-- where level and q let through, the turned coordinates land
+pub call-lands : (F : ℕ) (op : Operation) (d : Drawing) (x y : Registers) (q : ℕ) (m : Moved) → callRefusal F op (d .level) (d .q) ≡ 0
+    → x ≡ turn op (d .level) (d .x) → y ≡ turn op (d .level) (d .y) → q ≡ newPosition F op (d .level) (d .q)
+    → m ≡ landed d (record { level = newLevel op (d .level); q = q; x = x; y = y }) → m ≡ called F op d
+unfolding turned
+call-lands F op d x y q m e in-x in-y on l =
+    l ∙ (λ i. landed d (record { level = newLevel op (d .level); q = on i; x = in-x i; y = in-y i })) ∙ sym (call-landed F op d e)
 
 pub call-opens : (F : ℕ) (op : Operation) (n q : ℕ) → callRefusal F op n q ≡ 0 → Open F n q × (ownRefusal F op n q ≡ 0)
 unfolding callRefusal
-call-opens F op n q e = opens F n q (ownRefusal F op n q) e
-
-pub choice-refused : (F upper lower : ℕ) (d : Drawing) {k : ℕ} → k ≡ choiceRefusal F upper lower (d .level) (d .q) → (k ≡ 0 → ⊥)
-    → record { refusal = k; operation = none } ≡ choice F upper lower d
-unfolding choice
-choice-refused F upper lower d {k} e h = shut k h ∙ ap (λ (j : ℕ). replied j (chosen F upper lower d)) e
-  where
-    shut : (k : ℕ) → (k ≡ 0 → ⊥) → record { refusal = k; operation = none } ≡ replied k (chosen F upper lower d)
-    shut zero h = absurd (h refl)
-    shut (suc k) h = refl
+call-opens F op n q e = let f = first-kept (gate F n q) (ownRefusal F op n q) e in (opens F n q (f .0), f .1)
 
 pub choice-opens : (F upper lower n q : ℕ) → choiceRefusal F upper lower n q ≡ 0 → (areLimits upper lower ≡ true) × Open F n q
 unfolding choiceRefusal
-choice-opens F upper lower n q e =
-    let f = rule-kept (areLimits upper lower) 3 (gated F n q 0) e in
-    (f .0, opens F n q 0 (f .1) .0)
+choice-opens F upper lower n q e = let f = rule-kept (areLimits upper lower) 3 (gate F n q) e in (f .0, opens F n q (f .1))

@@ -12,12 +12,14 @@ use Rattle.numbers.proofs.Tests.{eqbℤ→eq}
 use Rattle.numbers.specs.Tables.{All, every}
 use Rattle.numbers.proofs.Tables.{tested}
 use Rattle.rules.specs.Rules.{finest, isCoordinate, areNeighbours, isLevel}
-use Rattle.engine.specs.declared.Control.{Control}
+use Rattle.coordinate.specs.declared.Control.{Control}
+use Rattle.coordinate.specs.Curve.{curve}
+use Rattle.coordinate.specs.Points.{areCoordinates, areNear}
+use Rattle.coordinate.specs.Registers.{Operation, halve, double, step, turn, startRegisters, areRegisters}
 use Rattle.engine.specs.declared.Moved.{Moved}
-use Rattle.engine.specs.Curve.{curve}
-use Rattle.engine.specs.Registers.{Operation, halve, double, step, turn, startRegisters}
-use Rattle.engine.specs.Drawing.{isDrawing, isAligned, gated, callRefusal, turned, areRegisters, landed, called}
-use Rattle.engine.specs.Start.{areCoordinates, areNear, startRefusal, zeros, started}
+use Rattle.engine.specs.Coordinates.{pick, every as everyCoordinate}
+use Rattle.engine.specs.Drawing.{isDrawing, isAligned, gate, callRefusal, registersRefusal, turned, called}
+use Rattle.engine.specs.Start.{startRefusal, zeros, started}
 
 -- the numbers that the document gives, where it gives them
 pub record Row : Type 0 where
@@ -40,7 +42,7 @@ abbrev pub flat : ℤ → Control
 flat z = record { p0 = z; p1 = z; p2 = z; p3 = z }
 
 abbrev pub reached : Row → Moved
-reached w = run (started finest (w .points) (flat (pos 0)) (w .level)) (w .calls)
+reached w = run (started finest (pick (w .points) (flat (pos 0))) (w .level)) (w .calls)
 
 -- a number is what the document says, where it says something
 abbrev pub Agrees : {A : Type 0} → Option A → A → Type 0
@@ -156,5 +158,5 @@ right-holds w t =
     }
 
 pub starred : All Holds table
-unfolding table started startRefusal areCoordinates areNear isCoordinate areNeighbours isLevel curve startRegisters called callRefusal gated isDrawing isAligned turned turn landed areRegisters
+unfolding table started startRefusal everyCoordinate areCoordinates areNear isCoordinate areNeighbours isLevel curve startRegisters called callRefusal gate isDrawing isAligned registersRefusal turned turn areRegisters
 starred = tested Holds right right-holds table tt

@@ -1,18 +1,32 @@
 -- Demand 1 for the engine: every entry answers, or refuses by a number of its table, and a refusal changes nothing.
-use mathlib.Core.Path.{_≡_, refl}
-use mathlib.Core.Bool.{Bool, true, false, cond, _&&_}
+use mathlib.Core.Path.{_≡_, refl, ap, _∙_}
 use mathlib.Core.Option.{none}
-use Prim.Native.Nat.{ℕ, zero, suc, _^_}
+use Prim.Native.Nat.{ℕ, _^_}
 use lib.Dec.{ltb}
 use lib.IntN.{pos}
-use Rattle.rules.specs.Rules.{Among, areLimits, isLevel, standardUpper, standardLower}
-use Rattle.rules.proofs.Laws.{line-among, among}
+use Rattle.rules.specs.Refusals.{Among, firstOf}
+use Rattle.rules.specs.Rules.{reach, areLimits, isLevel, standardUpper, standardLower}
+use Rattle.rules.proofs.Refusals.{line-among, among, first-among, number-answered, refused-answers}
+use Rattle.coordinate.specs.declared.Control.{Control}
+use Rattle.coordinate.specs.Points.{areCoordinates, areNear}
+use Rattle.coordinate.specs.Course.{cubic}
+use Rattle.coordinate.specs.Registers.{Operation, halve, double, step, areRegisters}
 use Rattle.engine.specs.declared.Drawing.{Drawing}
-use Rattle.engine.specs.declared.Control.{Control}
-use Rattle.engine.specs.Registers.{Operation, halve, double, step}
-use Rattle.engine.specs.Drawing.{isDrawing, isAligned, ownRefusal, gated, callRefusal, callTable, turned, areRegisters, refused, landed, answered, called}
-use Rattle.engine.specs.Start.{areCoordinates, areNear, startRefusal, startTable, nothingDrawn, begun, firstDrawing, started}
-use Rattle.engine.specs.Choice.{chosen, choiceRefusal, choiceTable, standardTable, replied, choice}
+use Rattle.engine.specs.declared.Moved.{Moved}
+use Rattle.engine.specs.Coordinates.{Coordinate, of, every}
+use Rattle.engine.specs.Drawing.{isDrawing, isAligned, gate, ownRefusal, callRefusal, registersRefusal, callTable, turned, refused, moved, called}
+use Rattle.engine.specs.Start.{startRefusal, startTable, nothingDrawn, firstDrawing, started}
+use Rattle.engine.specs.Choice.{Said, says, chosen, choiceRefusal, choiceTable, standardTable, refusedBy, choice}
+
+-- ---- by the number of a refusal
+
+moved-refusal : (k : ℕ) (old new : Drawing) → moved k old new .refusal ≡ k
+moved-refusal k old new = number-answered (refused old) (record { refusal = 0; drawing = new }) (λ (m : Moved). m .refusal) (λ k. refl) refl k
+
+moved-refused : (k : ℕ) (old new : Drawing) → (moved k old new .refusal ≡ 0 → ⊥) → moved k old new .drawing ≡ old
+moved-refused k old new h =
+    ap (λ (m : Moved). m .drawing)
+    (refused-answers (refused old) (record { refusal = 0; drawing = new }) (λ (m : Moved). m .refusal) (λ k. refl) refl k h)
 
 -- ---- halve, double and step
 
@@ -31,58 +45,36 @@ common halve = record { none = among tt; end = among tt; outside = among tt }
 common double = record { none = among tt; end = among tt; outside = among tt }
 common step = record { none = among tt; end = among tt; outside = among tt }
 
-refusal-among : (F : ℕ) (op : Operation) (n q : ℕ) → Among (callRefusal F op n q) (callTable op)
-unfolding callRefusal gated
-refusal-among F op n q =
-    line-among (isDrawing F n q) (common op .outside) (line-among (ltb q (2 ^ F)) (common op .end) (own-among F op n q))
-
-module _ (op : Operation) (old new : Drawing) where
-  landed-among : (fit : Bool) → Among (cond fit (record { refusal = 0; drawing = new }) (refused 10 old) .refusal) (callTable op)
-  landed-among true = common op .none
-  landed-among false = common op .outside
-
-  answer-among : (k : ℕ) → Among k (callTable op) → Among (answered k old new .refusal) (callTable op)
-  unfolding landed
-  answer-among zero t = landed-among (areRegisters (new .x) && areRegisters (new .y))
-  answer-among (suc k) t = t
-
-  landed-keeps : (fit : Bool) → (cond fit (record { refusal = 0; drawing = new }) (refused 10 old) .refusal ≡ 0 → ⊥)
-      → cond fit (record { refusal = 0; drawing = new }) (refused 10 old) .drawing ≡ old
-  landed-keeps true h = absurd (h refl)
-  landed-keeps false h = refl
-
-  answer-keeps : (k : ℕ) → (answered k old new .refusal ≡ 0 → ⊥) → answered k old new .drawing ≡ old
-  unfolding landed
-  answer-keeps zero h = landed-keeps (areRegisters (new .x) && areRegisters (new .y)) h
-  answer-keeps (suc k) h = refl
+call-among : (F : ℕ) (op : Operation) (n q : ℕ) (new : Drawing) → Among (firstOf (callRefusal F op n q) (registersRefusal new)) (callTable op)
+unfolding callRefusal gate registersRefusal
+call-among F op n q new =
+    let c = common op in
+    let level = line-among (isDrawing F n q) (c .outside) (line-among (ltb q (2 ^ F)) (c .end) (c .none)) in
+    first-among (callRefusal F op n q) (registersRefusal new) (first-among (gate F n q) (ownRefusal F op n q) level (own-among F op n q))
+    (line-among (every (λ c. areRegisters (of c new))) (c .outside) (c .none))
 
 pub call-refuses-as-tabled : (F : ℕ) (op : Operation) (d : Drawing) → Among (called F op d .refusal) (callTable op)
 unfolding called
-call-refuses-as-tabled F op d =
-    answer-among op d (turned F op d) (callRefusal F op (d .level) (d .q)) (refusal-among F op (d .level) (d .q))
+call-refuses-as-tabled F op d = rw moved-refusal (call-among F op (d .level) (d .q) (turned F op d))
 
 pub refused-call-changes-nothing : (F : ℕ) (op : Operation) (d : Drawing) → (called F op d .refusal ≡ 0 → ⊥) → called F op d .drawing ≡ d
 unfolding called
-refused-call-changes-nothing F op d = answer-keeps op d (turned F op d) (callRefusal F op (d .level) (d .q))
+refused-call-changes-nothing F op d = moved-refused (firstOf (callRefusal F op (d .level) (d .q)) (registersRefusal (turned F op d))) d (turned F op d)
 
 -- ---- the start
 
-start-among : (F : ℕ) (x y : Control) (n : ℕ) → Among (startRefusal F x y n) startTable
+start-among : (F : ℕ) (p : Coordinate → Control) (n : ℕ) → Among (startRefusal F p n) startTable
 unfolding startRefusal
-start-among F x y n =
-    line-among (areCoordinates x && areCoordinates y) (among tt)
-    (line-among (areNear x && areNear y) (among tt) (line-among (isLevel F n) (among tt) (among tt)))
+start-among F p n =
+    line-among (every (λ c. areCoordinates (p c))) (among tt)
+    (line-among (every (λ c. areNear reach (p c))) (among tt) (line-among (isLevel F n) (among tt) (among tt)))
 
-begun-refusal : (k : ℕ) (d : Drawing) → begun k d .refusal ≡ k
-begun-refusal zero d = refl
-begun-refusal (suc k) d = refl
-
-pub start-refuses-as-tabled : (F : ℕ) (x y : Control) (n : ℕ) → Among (started F x y n .refusal) startTable
+pub start-refuses-as-tabled : (F : ℕ) (p : Coordinate → Control) (n : ℕ) → Among (started F p n .refusal) startTable
 unfolding started
-start-refuses-as-tabled F x y n = rw begun-refusal (start-among F x y n)
+start-refuses-as-tabled F p n = rw moved-refusal (start-among F p n)
 
-pub refused-start-gives-zeros : (F : ℕ) (x y : Control) (n : ℕ) → (started F x y n .refusal ≡ 0 → ⊥)
-    → started F x y n .drawing
+pub refused-start-gives-zeros : (F : ℕ) (p : Coordinate → Control) (n : ℕ) → (started F p n .refusal ≡ 0 → ⊥)
+    → started F p n .drawing
     ≡ record {
       level = 0;
       q = 0;
@@ -90,40 +82,32 @@ pub refused-start-gives-zeros : (F : ℕ) (x y : Control) (n : ℕ) → (started
       y = record { a = pos 0; b = pos 0; c = pos 0; d = pos 0 };
     }
 unfolding started
-refused-start-gives-zeros F x y n = by-number (startRefusal F x y n) (firstDrawing x y n)
-  where
-    by-number : (k : ℕ) (d : Drawing) → (begun k d .refusal ≡ 0 → ⊥) → begun k d .drawing ≡ nothingDrawn
-    by-number zero d h = absurd (h refl)
-    by-number (suc k) d h = refl
+refused-start-gives-zeros F p n = moved-refused (startRefusal F p n) nothingDrawn (firstDrawing (λ c. cubic (p c)) n)
 
 -- ---- choosing
 
 choice-among : (F upper lower n q : ℕ) → Among (choiceRefusal F upper lower n q) choiceTable
-unfolding choiceRefusal gated
+unfolding choiceRefusal gate
 choice-among F upper lower n q =
     line-among (areLimits upper lower) (among tt)
     (line-among (isDrawing F n q) (among tt) (line-among (ltb q (2 ^ F)) (among tt) (among tt)))
 
 standard-among : (F n q : ℕ) → Among (choiceRefusal F standardUpper standardLower n q) standardTable
-unfolding choiceRefusal gated areLimits
+unfolding choiceRefusal gate areLimits
 standard-among F n q = line-among (isDrawing F n q) (among tt) (line-among (ltb q (2 ^ F)) (among tt) (among tt))
 
-replied-refusal : (k : ℕ) (op : Operation) → replied k op .refusal ≡ k
-replied-refusal zero op = refl
-replied-refusal (suc k) op = refl
+said-refusal : (F upper lower : ℕ) (d : Drawing) → choice F upper lower d .refusal ≡ choiceRefusal F upper lower (d .level) (d .q)
+unfolding choice
+said-refusal F upper lower d = number-answered refusedBy (says (chosen F upper lower d)) (λ (s : Said). s .refusal) (λ k. refl) refl _
 
 pub choice-refuses-as-tabled : (F upper lower : ℕ) (d : Drawing) → Among (choice F upper lower d .refusal) choiceTable
-unfolding choice
-choice-refuses-as-tabled F upper lower d = rw replied-refusal (choice-among F upper lower (d .level) (d .q))
+choice-refuses-as-tabled F upper lower d = rw said-refusal (choice-among F upper lower (d .level) (d .q))
 
 pub standard-refuses-as-tabled : (F : ℕ) (d : Drawing) → Among (choice F standardUpper standardLower d .refusal) standardTable
-unfolding choice
-standard-refuses-as-tabled F d = rw replied-refusal (standard-among F (d .level) (d .q))
+standard-refuses-as-tabled F d = rw said-refusal (standard-among F (d .level) (d .q))
 
 pub refused-choice-names-nothing : (F upper lower : ℕ) (d : Drawing) → (choice F upper lower d .refusal ≡ 0 → ⊥) → choice F upper lower d .operation ≡ none
 unfolding choice
-refused-choice-names-nothing F upper lower d = by-number (choiceRefusal F upper lower (d .level) (d .q)) (chosen F upper lower d)
-  where
-    by-number : (k : ℕ) (op : Operation) → (replied k op .refusal ≡ 0 → ⊥) → replied k op .operation ≡ none
-    by-number zero op h = absurd (h refl)
-    by-number (suc k) op h = refl
+refused-choice-names-nothing F upper lower d h =
+    ap (λ (s : Said). s .operation)
+    (refused-answers refusedBy (says (chosen F upper lower d)) (λ (s : Said). s .refusal) (λ k. refl) refl (choiceRefusal F upper lower (d .level) (d .q)) h)

@@ -10,11 +10,12 @@ use lib.Pow.{pow-pos}
 use borrow.Author.Tests.{ltb-true, ltb-false, leb-true, lt-ltb, le-ltb}
 use Rattle.numbers.proofs.Tests.{and-true, and-four}
 use Rattle.engine.specs.declared.Drawing.{Drawing}
-use Rattle.engine.specs.Registers.{Operation, halve, double, step}
+use Rattle.coordinate.specs.Registers.{Operation, halve, double, step}
+use Rattle.coordinate.specs.Increment.{increment, doubledIncrement}
 use Rattle.engine.specs.Drawing.{stride, isAligned, turned}
 use Rattle.engine.proofs.Gates.{Open}
 use Rattle.engine.proofs.Stays.{step-within}
-use Rattle.engine.specs.Choice.{increment, doubledIncrement, wantsHalve, wantsDouble, chosen, left}
+use Rattle.engine.specs.Choice.{wantsHalve, wantsDouble, chosen, left}
 
 -- ---- what the rules say of the drawing
 

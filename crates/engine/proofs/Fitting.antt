@@ -13,10 +13,9 @@ use borrow.Author.Tests.{leb-true}
 use Rattle.numbers.proofs.Machine.{Num, fits-size, reads-back, widens}
 use Rattle.numbers.proofs.Size.{Size, size-sum, size-shift}
 use Rattle.numbers.proofs.Tests.{and-true, and-four}
-use Rattle.engine.specs.declared.Registers.{Registers}
+use Rattle.coordinate.specs.declared.Registers.{Registers}
 use Rattle.engine.specs.declared.Wide.{Wide}
-use Rattle.engine.specs.Registers.{double, turn}
-use Rattle.engine.specs.Drawing.{isRegister, areRegisters}
+use Rattle.coordinate.specs.Registers.{double, turn, isRegister, areRegisters}
 use Rattle.engine.specs.Wide.{narrowed}
 
 pub record Fitting (p q r s : ℤ) : Type 0 where

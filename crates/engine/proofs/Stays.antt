@@ -1,33 +1,22 @@
 -- An accepted operation leads to a drawing again: level from 0 to F, q up to the end and a multiple of the new s. That is what
 -- refusals 5, 6, 7 and 8 are for.
-use mathlib.Core.Path.{_≡_, sym, ap, _∙_, subst}
+use mathlib.Core.Path.{_≡_, sym, ap, _∙_}
 use mathlib.Core.Bool.{true, _&&_}
 use Prim.Native.Nat.{ℕ, suc, _+_, _-_, _*_, _/_, _%_, _^_, _≤_, _<_}
-use native.Mathlib.Nat.{pow-succ', div-add-mod', add-zero, mul-mod-left, mul-assoc, mul-le-mul-right, lt-of-mul-lt-mul-right}
+use native.Mathlib.Nat.{pow-succ', mul-assoc}
 use native.Mathlib.Omega.{arith}
 use lib.Dec.{ltb}
 use lib.Pow.{pow-add}
 use borrow.Author.Tests.{ltb-true, eqb-true, le-leb, eq-eqb}
-use Rattle.rules.specs.Rules.{unless}
-use Rattle.rules.proofs.Laws.{rule-kept}
-use Rattle.engine.specs.Registers.{Operation, halve, double, step}
+use Rattle.numbers.proofs.Multiples.{multiple, remainder, next-multiple}
+use Rattle.rules.specs.Refusals.{unless}
+use Rattle.rules.proofs.Refusals.{rule-kept}
+use Rattle.coordinate.specs.Registers.{Operation, halve, double, step}
 use Rattle.engine.specs.Drawing.{stride, isDrawing, isAligned, callRefusal, newLevel, newPosition}
 use Rattle.engine.proofs.Gates.{Open}
 use Rattle.engine.proofs.Answers.{call-opens}
 
--- ---- multiples
-
-pub multiple : (q t : ℕ) → q % t ≡ 0 → q ≡ q / t * t
-multiple q t e = sym (div-add-mod' q t) ∙ ap (λ (m : ℕ). q / t * t + m) e ∙ add-zero (q / t * t)
-
-remainder : (q m t : ℕ) → q ≡ m * t → q % t ≡ 0
-remainder q m t e = ap (λ (x : ℕ). x % t) e ∙ mul-mod-left m t
-
--- below a multiple of s, the next multiple is still inside
-pub next-multiple : (G M s q m : ℕ) → G ≡ M * s → q ≡ m * s → q < G → q + s ≤ G
-next-multiple G M s q m e w h =
-    let l : m < M = lt-of-mul-lt-mul-right s (subst (λ (t : ℕ). t < M * s) w (subst (λ (t : ℕ). q < t) e h)) in
-    omega (arith, mul-le-mul-right s l)
+-- ---- strides
 
 -- two finer strides are one
 pub two-finer : (F n : ℕ) → n < F → stride F n ≡ 2 * stride F (n + 1)

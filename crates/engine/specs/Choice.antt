@@ -2,23 +2,16 @@
 use mathlib.Core.Bool.{Bool, cond, _&&_, _||_}
 use mathlib.Core.List.{List, [], _∷_}
 use mathlib.Core.Option.{Option, none, some}
-use Prim.Native.Nat.{ℕ, zero, suc, _+_, _-_, _*_, _^_}
+use Prim.Native.Nat.{ℕ, _+_, _-_, _*_, _^_}
 use lib.Dec.{leb, ltb}
-use lib.IntN.{natAbs}
-use Rattle.rules.specs.Rules.{unless, areLimits}
-use Rattle.engine.specs.declared.Registers.{Registers}
+use Rattle.rules.specs.Refusals.{unless, refusalOr}
+use Rattle.rules.specs.Rules.{areLimits}
+use Rattle.coordinate.specs.Registers.{Operation, halve, double, step}
+use Rattle.coordinate.specs.Increment.{increment, doubledIncrement}
 use Rattle.engine.specs.declared.Drawing.{Drawing}
 use Rattle.engine.specs.declared.Next.{Next}
 use Rattle.engine.specs.declared.Next.the-variants.{Halve, Double, Step, Refused}
-use Rattle.engine.specs.Registers.{Operation, halve, double, step, _>>_, turn}
-use Rattle.engine.specs.Drawing.{isAligned, gated}
-
--- the magnitude of a coordinate's increment c >> n, and of what it would be after doubling
-unfoldable pub increment : ℕ → Registers → ℕ
-increment n r = natAbs (r .c >> n)
-
-unfoldable pub doubledIncrement : ℕ → Registers → ℕ
-doubledIncrement n r = increment (n - 1) (turn double n r)
+use Rattle.engine.specs.Drawing.{isAligned, gate}
 
 -- 1: either increment larger than upper, and level below F
 unfoldable pub wantsHalve : ℕ → ℕ → Drawing → Bool
@@ -44,7 +37,7 @@ left F upper d = (2 ^ F - d .q) * (2 * F + 2) + cond (wantsHalve F upper d) (2 *
 
 -- 4, 10 by level and q, 5
 unfoldable pub choiceRefusal : ℕ → ℕ → ℕ → ℕ → ℕ → ℕ
-choiceRefusal F upper lower n q = unless (areLimits upper lower) 4 (gated F n q 0)
+choiceRefusal F upper lower n q = unless (areLimits upper lower) 4 (gate F n q)
 
 abbrev pub choiceTable : List ℕ
 choiceTable = 0 ∷ 4 ∷ 5 ∷ 10 ∷ []
@@ -67,15 +60,14 @@ pub record Said : Type 0 where
 abbrev pub says : Operation → Said
 says op = record { refusal = 0; operation = some (number op) }
 
+abbrev pub refusedBy : ℕ → Said
+refusedBy k = record { refusal = k; operation = none }
+
 abbrev pub said : Next → Said
 said Halve = says halve
 said Double = says double
 said Step = says step
-said (Refused k) = record { refusal = k; operation = none }
-
-abbrev pub replied : ℕ → Operation → Said
-replied zero op = says op
-replied (suc k) op = record { refusal = suc k; operation = none }
+said (Refused k) = refusedBy k
 
 unfoldable pub choice : ℕ → ℕ → ℕ → Drawing → Said
-choice F upper lower d = replied (choiceRefusal F upper lower (d .level) (d .q)) (chosen F upper lower d)
+choice F upper lower d = refusalOr (choiceRefusal F upper lower (d .level) (d .q)) refusedBy (says (chosen F upper lower d))

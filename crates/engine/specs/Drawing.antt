@@ -1,15 +1,13 @@
--- A drawing: level n, position q in 2^F-ths of the parameter, and the registers of x and y. F is the finest level.
-use mathlib.Core.Bool.{Bool, cond, _&&_}
+-- A drawing: level n, position q in 2^F-ths of the parameter, and the registers of each coordinate. F is the finest level.
+use mathlib.Core.Bool.{Bool, _&&_}
 use mathlib.Core.List.{List, [], _∷_}
-use Prim.Native.Nat.{ℕ, zero, suc, _+_, _-_, _*_, _%_, _^_}
+use Prim.Native.Nat.{ℕ, _+_, _-_, _*_, _%_, _^_}
 use lib.Dec.{leb, ltb, eqb}
-use lib.IntN.{ℤ, pos, negsuc}
-use lib.Signed.{leZ}
-use Rattle.rules.specs.Rules.{unless}
-use Rattle.engine.specs.declared.Registers.{Registers}
+use Rattle.rules.specs.Refusals.{unless, firstOf, refusalOr}
+use Rattle.coordinate.specs.Registers.{Operation, halve, double, step, turn, areRegisters}
 use Rattle.engine.specs.declared.Drawing.{Drawing}
 use Rattle.engine.specs.declared.Moved.{Moved}
-use Rattle.engine.specs.Registers.{Operation, halve, double, step, turn}
+use Rattle.engine.specs.Coordinates.{of, every}
 
 -- s: what one step at level n adds to q. A drawing ends at q = 2^F.
 abbrev pub stride : ℕ → ℕ → ℕ
@@ -23,18 +21,22 @@ isDrawing F n q = leb n F && leb q (2 ^ F) && eqb (q % stride F n) 0
 unfoldable pub isAligned : ℕ → ℕ → ℕ → Bool
 isAligned F n q = eqb (q % (2 * stride F n)) 0
 
+-- 10 by level and q, then 5 at the end of the drawing
+unfoldable pub gate : ℕ → ℕ → ℕ → ℕ
+gate F n q = unless (isDrawing F n q) 10 (unless (ltb q (2 ^ F)) 5 0)
+
 -- what each operation refuses by itself: 6 is halve at level F, 7 double at level 0, 8 double where q is no multiple of 2s
 abbrev pub ownRefusal : ℕ → Operation → ℕ → ℕ → ℕ
 ownRefusal F halve n q = unless (ltb n F) 6 0
 ownRefusal F double n q = unless (ltb 0 n) 7 (unless (isAligned F n q) 8 0)
 ownRefusal F step n q = 0
 
--- 10 by level and q, then 5 at the end of the drawing, then what comes after
-unfoldable pub gated : ℕ → ℕ → ℕ → ℕ → ℕ
-gated F n q rest = unless (isDrawing F n q) 10 (unless (ltb q (2 ^ F)) 5 rest)
-
 unfoldable pub callRefusal : ℕ → Operation → ℕ → ℕ → ℕ
-callRefusal F op n q = gated F n q (ownRefusal F op n q)
+callRefusal F op n q = firstOf (gate F n q) (ownRefusal F op n q)
+
+-- 10 by any new register outside 32 bits
+unfoldable pub registersRefusal : Drawing → ℕ
+registersRefusal new = unless (every (λ c. areRegisters (of c new))) 10 0
 
 -- the numbers by which an operation may be refused, 0 for none
 abbrev pub callTable : Operation → List ℕ
@@ -62,25 +64,17 @@ turned F op d =
       y = turn op (d .level) (d .y);
     }
 
--- a register is a signed number of 32 bits
-abbrev pub isRegister : ℤ → Bool
-isRegister z = leZ (negsuc 2147483647) z && leZ z (pos 2147483647)
-
-unfoldable pub areRegisters : Registers → Bool
-areRegisters r = isRegister (r .a) && isRegister (r .b) && isRegister (r .c) && isRegister (r .d)
-
 -- a refusal gives back the drawing that was given
-abbrev pub refused : ℕ → Drawing → Moved
-refused k d = record { refusal = k; drawing = d }
+abbrev pub refused : Drawing → ℕ → Moved
+refused old k = record { refusal = k; drawing = old }
 
--- 10 by any new register outside 32 bits
+-- by the number of a refusal, 0 for none
+abbrev pub moved : ℕ → Drawing → Drawing → Moved
+moved k old new = refusalOr k (refused old) (record { refusal = 0; drawing = new })
+
 unfoldable pub landed : Drawing → Drawing → Moved
-landed old new = cond (areRegisters (new .x) && areRegisters (new .y)) (record { refusal = 0; drawing = new }) (refused 10 old)
+landed old new = moved (registersRefusal new) old new
 
-abbrev pub answered : ℕ → Drawing → Drawing → Moved
-answered zero old new = landed old new
-answered (suc k) old new = refused (suc k) old
-
--- what halve, double and step answer
+-- what halve, double and step answer: 10 by registers comes last
 unfoldable pub called : ℕ → Operation → Drawing → Moved
-called F op d = answered (callRefusal F op (d .level) (d .q)) d (turned F op d)
+called F op d = moved (firstOf (callRefusal F op (d .level) (d .q)) (registersRefusal (turned F op d))) d (turned F op d)

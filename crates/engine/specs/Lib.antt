@@ -1,5 +1,4 @@
-pub mod Curve
-pub mod Registers
+pub mod Coordinates
 pub mod Drawing
 pub mod Start
 pub mod Choice

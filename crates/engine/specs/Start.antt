@@ -1,46 +1,40 @@
--- The start of a drawing: 1 over all points of x and y, then 2, then 3.
-use mathlib.Core.Bool.{Bool, _&&_}
+-- The start of a drawing: 1 over all points of every coordinate, then 2, then 3.
 use mathlib.Core.List.{List, [], _∷_}
-use Prim.Native.Nat.{ℕ, zero, suc}
+use Prim.Native.Nat.{ℕ}
 use lib.IntN.{pos}
-use Rattle.rules.specs.Rules.{unless, isCoordinate, areNeighbours, isLevel}
-use Rattle.engine.specs.declared.Registers.{Registers}
-use Rattle.engine.specs.declared.Control.{Control}
+use Rattle.rules.specs.Refusals.{unless}
+use Rattle.rules.specs.Rules.{reach, isLevel}
+use Rattle.coordinate.specs.declared.Registers.{Registers}
+use Rattle.coordinate.specs.declared.Control.{Control}
+use Rattle.coordinate.specs.Points.{areCoordinates, areNear}
+use Rattle.coordinate.specs.Course.{Course, cubic}
+use Rattle.coordinate.specs.Registers.{startRegisters}
 use Rattle.engine.specs.declared.Drawing.{Drawing}
 use Rattle.engine.specs.declared.Moved.{Moved}
-use Rattle.engine.specs.Curve.{curve}
-use Rattle.engine.specs.Registers.{startRegisters}
+use Rattle.engine.specs.Coordinates.{Coordinate, in-x, in-y, every}
+use Rattle.engine.specs.Drawing.{moved}
 
-unfoldable pub areCoordinates : Control → Bool
-areCoordinates p = isCoordinate (p .p0) && isCoordinate (p .p1) && isCoordinate (p .p2) && isCoordinate (p .p3)
-
-unfoldable pub areNear : Control → Bool
-areNear p = areNeighbours (p .p0) (p .p1) && areNeighbours (p .p1) (p .p2) && areNeighbours (p .p2) (p .p3)
-
-unfoldable pub startRefusal : ℕ → Control → Control → ℕ → ℕ
-startRefusal F x y n =
-    unless (areCoordinates x && areCoordinates y) 1
-    (unless (areNear x && areNear y) 2
+-- p: the control points of each coordinate
+unfoldable pub startRefusal : ℕ → (Coordinate → Control) → ℕ → ℕ
+startRefusal F p n =
+    unless (every (λ c. areCoordinates (p c))) 1
+    (unless (every (λ c. areNear reach (p c))) 2
     (unless (isLevel F n) 3 0))
 
 abbrev pub startTable : List ℕ
 startTable = 0 ∷ 1 ∷ 2 ∷ 3 ∷ []
 
+-- every number 0
 abbrev pub zeros : Registers
 zeros = record { a = pos 0; b = pos 0; c = pos 0; d = pos 0 }
 
--- every number 0
 abbrev pub nothingDrawn : Drawing
 nothingDrawn = record { level = 0; q = 0; x = zeros; y = zeros }
 
--- a refused start gives a drawing with every number 0
-abbrev pub begun : ℕ → Drawing → Moved
-begun zero d = record { refusal = 0; drawing = d }
-begun (suc k) d = record { refusal = suc k; drawing = nothingDrawn }
-
 -- at level n and q = 0
-abbrev pub firstDrawing : Control → Control → ℕ → Drawing
-firstDrawing x y n = record { level = n; q = 0; x = startRegisters n (curve x); y = startRegisters n (curve y) }
+abbrev pub firstDrawing : (Coordinate → Course) → ℕ → Drawing
+firstDrawing p n = record { level = n; q = 0; x = startRegisters n (p in-x .curve); y = startRegisters n (p in-y .curve) }
 
-unfoldable pub started : ℕ → Control → Control → ℕ → Moved
-started F x y n = begun (startRefusal F x y n) (firstDrawing x y n)
+-- a refused start gives a drawing with every number 0
+unfoldable pub started : ℕ → (Coordinate → Control) → ℕ → Moved
+started F p n = moved (startRefusal F p n) nothingDrawn (firstDrawing (λ c. cubic (p c)) n)

@@ -1,5 +1,5 @@
 -- Registers of 64 bits, read as registers: what the operations hand over before it is known that they fit 32 bits.
-use Rattle.engine.specs.declared.Registers.{Registers}
+use Rattle.coordinate.specs.declared.Registers.{Registers}
 use Rattle.engine.specs.declared.Wide.{Wide}
 
 abbrev pub narrowed : Wide → Registers

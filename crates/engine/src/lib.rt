@@ -1,44 +1,32 @@
 // The drawing engine: start, halve, double, step, choosing the next operation, and the point shown.
 ghost use mathlib.Core.Path.{_≡_};
 ghost use mathlib.Core.Bool.{true};
-ghost use Prim.Native.Nat.{_≤_, _^_};
-ghost use lib.IntN.{natAbs};
-ghost use Rattle.rules.specs.Rules.{finest, standardUpper, standardLower};
-ghost use Rattle.engine.specs.Curve.{curve};
-ghost use Rattle.engine.specs.Registers.{halve, double, step, startRegisters, turn};
-ghost use Rattle.engine.specs.Drawing.{isDrawing, isAligned, gated, callRefusal, areRegisters, refused, landed, called};
-ghost use Rattle.engine.specs.Start.{areCoordinates, areNear, startRefusal, nothingDrawn, started};
-ghost use Rattle.engine.specs.Choice.{increment, doubledIncrement, wantsHalve, wantsDouble, choiceRefusal, said, choice};
-ghost use Rattle.engine.specs.Shown.{pixel, point};
+ghost use Prim.Native.Nat.{_≤_};
+ghost use Rattle.rules.specs.Rules.{finest, reach, standardUpper, standardLower};
+ghost use Rattle.coordinate.specs.Curve.{curve};
+ghost use Rattle.coordinate.specs.Points.{areCoordinates, areNear};
+ghost use Rattle.coordinate.specs.Registers.{halve, double, step, startRegisters, turn, areRegisters};
+ghost use Rattle.coordinate.specs.Increment.{increment, doubledIncrement};
+ghost use Rattle.coordinate.specs.Shown.{pixel};
+ghost use Rattle.engine.specs.Coordinates.{pick};
+ghost use Rattle.engine.specs.Drawing.{stride, isDrawing, isAligned, gate, callRefusal, refused, landed, called};
+ghost use Rattle.engine.specs.Start.{startRefusal, nothingDrawn, started};
+ghost use Rattle.engine.specs.Choice.{wantsHalve, wantsDouble, choiceRefusal, said, choice};
+ghost use Rattle.engine.specs.Shown.{point};
 ghost use Rattle.engine.specs.Wide.{narrowed};
+use coordinate::Control;
+use coordinate::Registers;
+use rules::FINEST;
 
-// The position at the end of a drawing, 2^FINEST, and twice that: shifted by the level they are s and 2s.
-const END: u32 = 2048;
+// The position at the end of a drawing.
+const END: u32 = 1 << FINEST;
 
-const TWO_ENDS: u32 = 4096;
-
-// The registers of one coordinate, in 65,536ths of a unit.
-pub struct Registers {
-    pub a: i32,
-    pub b: i32,
-    pub c: i32,
-    pub d: i32,
-}
-
-// A drawing at level `level` and position `q`, which counts 2,048ths of the parameter.
+// A drawing at level `level` and position `q`, which counts 2^FINEST-ths of the parameter.
 pub struct Drawing {
     pub level: u32,
     pub q: u32,
     pub x: Registers,
     pub y: Registers,
-}
-
-// One coordinate of a curve's control points, the first point first.
-pub struct Control {
-    pub p0: i32,
-    pub p1: i32,
-    pub p2: i32,
-    pub p3: i32,
 }
 
 // A drawing, and the number by which a call was refused: 0 where it was not.
@@ -72,7 +60,7 @@ struct Wide {
 impl Drawing {
     // The drawing at the start of a curve. Refuses 1, 2, 3, with every number of the drawing 0.
     pub fn start(x: Control, y: Control, level: u32) -> Moved
-        ensures { λ r. ⌜ r ≡ started finest x y level ⌝ }
+        ensures { λ r. ⌜ r ≡ started finest (pick x y) level ⌝ }
     {
         let refusal = start_refusal(x, y, level);
         if refusal != 0 {
@@ -131,7 +119,7 @@ impl Drawing {
         }
         let x = step_one(self.x, level);
         let y = step_one(self.y, level);
-        land(self, level, q + (END >> level), x, y)
+        land(self, level, q + stride(level), x, y)
     }
 
     // The operation that the three rules choose under these limits. Refuses 4, 10, 5.
@@ -174,7 +162,7 @@ impl Drawing {
 // ---- the start
 
 fn start_refusal(x: Control, y: Control, level: u32) -> u32
-    ensures { λ r. ⌜ r ≡ startRefusal finest x y level ⌝ }
+    ensures { λ r. ⌜ r ≡ startRefusal finest (pick x y) level ⌝ }
 {
     let inside = coordinates(x) & coordinates(y);
     if !inside {
@@ -200,14 +188,14 @@ fn coordinates(p: Control) -> bool
 }
 
 fn near(p: Control) -> bool
-    ensures { λ r. ⌜ r ≡ areNear p ⌝ }
+    ensures { λ r. ⌜ r ≡ areNear reach p ⌝ }
 {
     rules::neighbours(p.p0, p.p1) & rules::neighbours(p.p1, p.p2) & rules::neighbours(p.p2, p.p3)
 }
 
 // By the differences of neighbours, which are small: every sum here fits 32 bits.
 fn start_one(p: Control, n: u32) -> Registers
-    requires { ⌜ (n ≤ finest) × (areCoordinates p ≡ true) × (areNear p ≡ true) ⌝ }
+    requires { ⌜ (n ≤ finest) × (areCoordinates p ≡ true) × (areNear reach p ≡ true) ⌝ }
     ensures { λ r. ⌜ r ≡ startRegisters n (curve p) ⌝ }
 {
     let first = p.p1 - p.p0;
@@ -248,25 +236,33 @@ fn nothing() -> Drawing
 
 // ---- refusals by level and q
 
+// What one step adds to q.
+fn stride(level: u32) -> u32
+    requires { ⌜ level ≤ finest ⌝ }
+    ensures { λ r. ⌜ r ≡ stride finest level ⌝ }
+{
+    1 << (FINEST - level)
+}
+
 fn is_drawing(level: u32, q: u32) -> bool
     ensures { λ r. ⌜ r ≡ isDrawing finest level q ⌝ }
 {
-    if level > rules::FINEST {
+    if level > FINEST {
         return false;
     }
-    (q <= END) & (q % (END >> level) == 0)
+    (q <= END) & (q % stride(level) == 0)
 }
 
 fn is_aligned(level: u32, q: u32) -> bool
     requires { ⌜ level ≤ finest ⌝ }
     ensures { λ r. ⌜ r ≡ isAligned finest level q ⌝ }
 {
-    q % (TWO_ENDS >> level) == 0
+    q % (2 * stride(level)) == 0
 }
 
 // 10 and 5, which come before each operation's own refusals.
 fn gate(level: u32, q: u32) -> u32
-    ensures { λ r. ⌜ r ≡ gated finest level q 0 ⌝ }
+    ensures { λ r. ⌜ r ≡ gate finest level q ⌝ }
 {
     let outside = !is_drawing(level, q);
     let ended = q >= END;
@@ -286,7 +282,7 @@ fn halve_refusal(level: u32, q: u32) -> u32
     if refusal != 0 {
         return refusal;
     }
-    if level >= rules::FINEST {
+    if level >= FINEST {
         return 6;
     }
     0
@@ -412,7 +408,7 @@ fn land(old: Drawing, level: u32, q: u32, x: Wide, y: Wide) -> Moved
 
 // A refusal hands back the drawing that it is given.
 fn refuse(refusal: u32, d: Drawing) -> Moved
-    ensures { λ r. ⌜ r ≡ refused refusal d ⌝ }
+    ensures { λ r. ⌜ r ≡ refused d refusal ⌝ }
 {
     Moved {
         refusal: refusal,
@@ -450,7 +446,7 @@ fn wants_halve(d: Drawing, upper: u32) -> bool
     let n = d.level;
     let x = increment_of(d.x, n);
     let y = increment_of(d.y, n);
-    (((upper as u64) < x) | ((upper as u64) < y)) & (n < rules::FINEST)
+    (((upper as u64) < x) | ((upper as u64) < y)) & (n < FINEST)
 }
 
 fn wants_double(d: Drawing, upper: u32, lower: u32) -> bool
@@ -476,7 +472,7 @@ fn increment_of(r: Registers, n: u32) -> u64
     ensures { λ k. ⌜ k ≡ increment n r ⌝ }
 {
     let old = widen(r);
-    magnitude(old.c >> n)
+    words::magnitude(old.c >> n)
 }
 
 // By a trial doubling.
@@ -485,17 +481,7 @@ fn doubled_increment_of(r: Registers, n: u32) -> u64
     ensures { λ k. ⌜ k ≡ doubledIncrement n r ⌝ }
 {
     let doubled = double_one(r, n);
-    magnitude(doubled.c >> (n - 1))
-}
-
-fn magnitude(v: i64) -> u64
-    requires { ⌜ natAbs v ≤ 2 ^ 40 ⌝ }
-    ensures { λ r. ⌜ r ≡ natAbs v ⌝ }
-{
-    if v < 0 {
-        return (0 - v) as u64;
-    }
-    v as u64
+    words::magnitude(doubled.c >> (n - 1))
 }
 
 // ---- the point shown

@@ -15,8 +15,8 @@ ghost use Rattle.text.specs.Reached.{reached};
 ghost use Rattle.listing_text.specs.Lines.{end, named, followed, pathLine, entryLine};
 ghost use Rattle.listing_text.specs.Listing.{sheetText, output};
 ghost use Rattle.listing_text.specs.Pieces.{segmentAt, entryOf, linesIn, headingAt, pieceText, nextPlace};
-use libc::STDOUT_FILENO;
 use entries::Entry;
+use libc::STDOUT_FILENO;
 use path::Drawn;
 
 // What was printed: by what number the sheet is refused, 0 for none, and how many bytes.

@@ -1,13 +1,14 @@
 -- The floor of z / m, `shrZ z m`: the one whole number y with m·y ≤ z ≤ m·y + m - 1, and what follows from that.
-use mathlib.Core.Path.{_≡_, sym}
-use Prim.Native.Nat.{ℕ, zero, suc, _+_, _*_, _/_, _<_}
-use native.Mathlib.Nat.{div-add-mod, mod-lt, mul-pos}
+use mathlib.Core.Path.{_≡_, sym, subst}
+use Prim.Native.Nat.{ℕ, zero, suc, _+_, _*_, _/_, _≤_, _<_}
+use native.Mathlib.Nat.{div-add-mod, mod-lt, mul-pos, lt-of-mul-lt-mul-right}
 use native.Mathlib.Omega.{arith}
-use lib.IntN.{ℤ, pos, negsuc, _+ℤ_, _-ℤ_, _*ℤ_}
+use lib.IntN.{ℤ, pos, negsuc, natAbs, _+ℤ_, _-ℤ_, _*ℤ_}
 use lib.Signed.{shrZ, _≤ℤ_, ≤ℤ-refl}
 use Rattle.numbers.proofs.Parts.{up, down, add-parts, mul-parts}
 use Rattle.numbers.proofs.Ring.{#, _:+_, _:-_, _:*_, ring}
 use Rattle.numbers.proofs.Order.{le-parts, parts-le, ≤ℤ-antisym, pos-le, nat, less, _⊕_, _⊗_, gap, certified}
+use Rattle.numbers.proofs.Size.{Size, size-bounds, size-below, natAbs-product}
 
 pub floor-low : (z : ℤ) (m : ℕ) → 0 < m → (pos m *ℤ shrZ z m) ≤ℤ z
 floor-low (pos a) m h = pos-le (omega (arith, div-add-mod a m))
@@ -63,3 +64,22 @@ floor-floor z m k p r =
     sym (floor-is z g (m * k) (mul-pos p r)
     (certified (ring 5 (λ m k z f g. (z :- m :* k :* g, (z :- m :* f) :+ m :* (f :- k :* g))) tt (pos m) (pos k) z f g) (gap (floor-low z m p) ⊕ nat m ⊗ gap (floor-low f k r)))
     (certified (ring 5 (λ m k z f g. (m :* k :* g :+ m :* k :- # 1 :- z, (m :* f :+ m :- # 1 :- z) :+ m :* (k :* g :+ k :- # 1 :- f))) tt (pos m) (pos k) z f g) (gap (floor-high z m p) ⊕ nat m ⊗ gap (floor-high f k r))))
+
+-- numbers at most m apart have floors at most 1 apart
+pub floors-touch : (u v : ℤ) (m : ℕ) → 0 < m → Size (v -ℤ u) m → natAbs (shrZ v m -ℤ shrZ u m) ≤ 1
+floors-touch u v m h s =
+    let y : ℤ = shrZ u m in
+    let z : ℤ = shrZ v m in
+    let b = size-bounds s in
+    let high : ((z -ℤ y) *ℤ pos m) ≤ℤ (pos (2 * m) -ℤ pos 1) =
+    certified (ring 5 (λ m u v y z. (
+      # 2 :* m :- # 1 :- (z :- y) :* m,
+      (v :- m :* z) :+ (m :* y :+ m :- # 1 :- u) :+ (m :- (v :- u)),
+    )) tt (pos m) u v y z) (gap (floor-low v m h) ⊕ gap (floor-high u m h) ⊕ gap (b .1)) in
+    let low : (pos 0 -ℤ (z -ℤ y) *ℤ pos m) ≤ℤ (pos (2 * m) -ℤ pos 1) =
+    certified (ring 5 (λ m u v y z. (
+      # 2 :* m :- # 1 :- (# 0 :- (z :- y) :* m),
+      (u :- m :* y) :+ (m :* z :+ m :- # 1 :- v) :+ (v :- u :- (# 0 :- m)),
+    )) tt (pos m) u v y z) (gap (floor-low u m h) ⊕ gap (floor-high v m h) ⊕ gap (b .0)) in
+    let below = size-below ((z -ℤ y) *ℤ pos m) (2 * m) high low in
+    omega (arith, lt-of-mul-lt-mul-right m (subst (λ (t : ℕ). t < 2 * m) (natAbs-product (z -ℤ y) (pos m)) below))

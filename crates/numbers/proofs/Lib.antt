@@ -7,4 +7,5 @@ pub mod Size
 pub mod Machine
 pub mod Tests
 pub mod Tables
+pub mod Multiples
 pub mod Buffers

@@ -4,7 +4,7 @@ use mathlib.Core.Bool.{_&&_}
 use mir.Facts.{toZ-ofZ}
 use borrow.Author.Needs.{needs}
 use Rattle.rules.specs.Rules.{isCoordinate}
-use Rattle.engine.specs.Start.{areCoordinates}
+use Rattle.coordinate.specs.Points.{areCoordinates}
 use Rattle.engine.proofs.Fitting.{told}
 use Rattle.engine.proofs.coordinates.Statement.{statement}
 use Rattle.engine.proofs.coordinates.Tie as tie

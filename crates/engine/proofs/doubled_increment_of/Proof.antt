@@ -1,14 +1,13 @@
 -- The doubled c, shifted by one level less, in magnitude.
 use mathlib.Core.Path.{ap, _∙_}
 use Prim.Native.Nat.{_-_}
-use native.Mathlib.Omega.{arith}
 use lib.IntN.{natAbs}
 use mir.Syntax.{w64}
 use borrow.Author.Needs.{needs}
 use Rattle.numbers.proofs.Machine.{Num, local, shift}
-use Rattle.engine.specs.declared.Registers.{Registers}
-use Rattle.engine.specs.Registers.{double, turn, _>>_}
-use Rattle.engine.specs.Choice.{increment, doubledIncrement}
+use Rattle.coordinate.specs.declared.Registers.{Registers}
+use Rattle.coordinate.specs.Registers.{double, turn, _>>_}
+use Rattle.coordinate.specs.Increment.{increment, doubledIncrement}
 use Rattle.engine.proofs.Fitting.{doubled-c, told}
 use Rattle.engine.proofs.doubled_increment_of.Statement.{statement}
 use Rattle.engine.proofs.doubled_increment_of.Tie as tie
@@ -34,7 +33,7 @@ shr-magnitude : tie.Need-shr-magnitude
 shr-magnitude c = search needs
 
 magnitude-requires : tie.Need-magnitude-requires
-magnitude-requires c κs = let v = moved (c .before .before) in rw (v .is) (omega (arith, v .small .le))
+magnitude-requires c κs = search needs
 
 returns : tie.Need-returns
 unfolding doubledIncrement increment

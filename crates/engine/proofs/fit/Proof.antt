@@ -1,6 +1,6 @@
 -- The comparisons are those of `areRegisters`.
 use borrow.Author.Needs.{needs}
-use Rattle.engine.specs.Drawing.{areRegisters}
+use Rattle.coordinate.specs.Registers.{areRegisters}
 use Rattle.engine.proofs.fit.Statement.{statement}
 use Rattle.engine.proofs.fit.Tie as tie
 

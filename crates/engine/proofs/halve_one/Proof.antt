@@ -4,8 +4,8 @@ use lib.IntN.{_-ℤ_}
 use mir.Syntax.{w64}
 use borrow.Author.Needs.{needs}
 use Rattle.numbers.proofs.Machine.{Num, local, shift, minus, fits}
-use Rattle.engine.specs.declared.Registers.{Registers}
-use Rattle.engine.specs.Registers.{turn, _>>_}
+use Rattle.coordinate.specs.declared.Registers.{Registers}
+use Rattle.coordinate.specs.Registers.{turn, _>>_}
 use Rattle.engine.proofs.Fitting.{Widened, widened, told}
 use Rattle.engine.proofs.halve_one.Statement.{statement}
 use Rattle.engine.proofs.halve_one.Tie as tie

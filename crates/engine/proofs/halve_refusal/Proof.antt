@@ -1,9 +1,10 @@
 -- The gate first, then 6.
-use mathlib.Core.Path.{sym, _∙_}
+use mathlib.Core.Path.{_≡_, sym, _∙_}
 use borrow.Author.Needs.{needs}
 use borrow.Author.Tests.{le-ltb, lt-ltb}
-use Rattle.engine.specs.Drawing.{callRefusal}
-use Rattle.engine.proofs.Gates.{gate-shut, gate-open}
+use Rattle.rules.specs.Rules.{finest}
+use Rattle.rules.proofs.Refusals.{first-on, first-stop}
+use Rattle.engine.specs.Drawing.{gate, callRefusal}
 use Rattle.engine.proofs.halve_refusal.Statement.{statement}
 use Rattle.engine.proofs.halve_refusal.Tie as tie
 
@@ -12,17 +13,18 @@ gate-requires c κs = search needs
 
 returns : tie.Need-returns
 unfolding callRefusal
-returns c = let g = c .before .gate .ensures in g ∙ sym (gate-shut _ _ _ _ (λ z. c .if1 .taken (g ∙ z)))
+returns c = let g = c .before .gate .ensures in g ∙ sym (first-stop _ _ (λ z. c .if1 .taken (g ∙ z)))
+
+opens : (c : tie.Else1) → gate finest (c .before .before .args .level) (c .before .before .args .q) ≡ 0
+opens c = sym (c .before .gate .ensures) ∙ c .if1 .left
 
 returns-2 : tie.Need-returns-2
 unfolding callRefusal
-returns-2 c =
-    sym (gate-open _ _ _ _ (sym (c .before .before .gate .ensures) ∙ c .before .if1 .left) ∙ simp (le-ltb _ _ (c .if2 .taken)))
+returns-2 c = sym (first-on _ _ (opens (c .before)) ∙ simp (le-ltb _ _ (c .if2 .taken)))
 
 returns-3 : tie.Need-returns-3
 unfolding callRefusal
-returns-3 c =
-    sym (gate-open _ _ _ _ (sym (c .before .before .gate .ensures) ∙ c .before .if1 .left) ∙ simp (lt-ltb _ _ (c .if2 .left)))
+returns-3 c = sym (first-on _ _ (opens (c .before)) ∙ simp (lt-ltb _ _ (c .if2 .left)))
 
 pub halve-refusal-spec : {M : Type 1} → statement M
 halve-refusal-spec = tie.close (tie.spec gate-requires returns returns-2 returns-3)

@@ -1,13 +1,12 @@
 -- The shifted c, in magnitude.
 use mathlib.Core.Path.{ap, _∙_}
-use native.Mathlib.Omega.{arith}
 use lib.IntN.{natAbs}
 use mir.Syntax.{w64}
 use borrow.Author.Needs.{needs}
 use Rattle.numbers.proofs.Machine.{Num, local, shift}
-use Rattle.engine.specs.declared.Registers.{Registers}
-use Rattle.engine.specs.Registers.{_>>_}
-use Rattle.engine.specs.Choice.{increment}
+use Rattle.coordinate.specs.declared.Registers.{Registers}
+use Rattle.coordinate.specs.Registers.{_>>_}
+use Rattle.coordinate.specs.Increment.{increment}
 use Rattle.engine.proofs.Fitting.{Widened, widened, told}
 use Rattle.engine.proofs.increment_of.Statement.{statement}
 use Rattle.engine.proofs.increment_of.Tie as tie
@@ -31,7 +30,7 @@ shr-magnitude : tie.Need-shr-magnitude
 shr-magnitude c = search needs
 
 magnitude-requires : tie.Need-magnitude-requires
-magnitude-requires c κs = let v = moved (c .before .before) in rw (v .is) (omega (arith, v .small .le))
+magnitude-requires c κs = search needs
 
 returns : tie.Need-returns
 unfolding increment

@@ -1,9 +1,11 @@
--- The two calls of `fit` are the test of `landed`.
+-- The calls of `fit` are the test of `registersRefusal`.
 use mathlib.Core.Path.{_≡_, sym, _∙_}
 use mathlib.Core.Bool.{true, _&&_}
 use borrow.Author.Needs.{needs}
 use Rattle.numbers.proofs.Tests.{and-true}
-use Rattle.engine.specs.Drawing.{areRegisters, landed}
+use Rattle.coordinate.specs.Registers.{areRegisters}
+use Rattle.engine.specs.Coordinates.{every}
+use Rattle.engine.specs.Drawing.{registersRefusal, landed}
 use Rattle.engine.specs.Wide.{narrowed}
 use Rattle.engine.proofs.land.Statement.{statement}
 use Rattle.engine.proofs.land.Tie as tie
@@ -24,14 +26,14 @@ narrow-requires-2 : tie.Need-narrow-requires-2
 narrow-requires-2 c κs = and-true (areRegisters (narrowed (c .before .before .before .before .args .x))) _ (all-fit (c .before)) .1
 
 returns : tie.Need-returns
-unfolding landed
+unfolding landed registersRefusal every
 returns c = simp (c .narrow2 .ensures, c .before .narrow .ensures, all-fit (c .before .before))
 
 refuse-requires : tie.Need-refuse-requires
 refuse-requires c κs = search needs
 
 returns-2 : tie.Need-returns-2
-unfolding landed
+unfolding landed registersRefusal every
 returns-2 c =
     let none = (λ i. sym (c .before .before .before .fit .ensures) i && sym (c .before .before .fit2 .ensures) i) ∙ c .before .if1 .left in
     c .refuse .ensures ∙ simp none

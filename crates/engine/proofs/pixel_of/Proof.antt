@@ -3,9 +3,9 @@ use lib.IntN.{pos, _+ℤ_}
 use mir.Syntax.{w32, w64}
 use borrow.Author.Needs.{needs}
 use Rattle.numbers.proofs.Machine.{Num, literal, local, shift-to, plus, fits}
-use Rattle.engine.specs.declared.Registers.{Registers}
-use Rattle.engine.specs.Registers.{_>>_}
-use Rattle.engine.specs.Shown.{pixel}
+use Rattle.coordinate.specs.declared.Registers.{Registers}
+use Rattle.coordinate.specs.Registers.{_>>_}
+use Rattle.coordinate.specs.Shown.{pixel}
 use Rattle.engine.proofs.Fitting.{Widened, widened, told}
 use Rattle.engine.proofs.pixel_of.Statement.{statement}
 use Rattle.engine.proofs.pixel_of.Tie as tie

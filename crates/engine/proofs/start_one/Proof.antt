@@ -5,9 +5,11 @@ use lib.IntN.{pos, _+ℤ_, _-ℤ_, _*ℤ_}
 use mir.Syntax.{w32}
 use borrow.Author.Needs.{needs}
 use Rattle.numbers.proofs.Machine.{Num, known, tighter, literal, local, shift, plus, minus, times, fits}
-use Rattle.engine.specs.declared.Control.{Control}
-use Rattle.engine.specs.Registers.{_>>_, unit}
-use Rattle.engine.proofs.Begin.{Extent, extent, Reach, reaches, cubic, square, linear, reckoned-start}
+use Rattle.coordinate.specs.declared.Control.{Control}
+use Rattle.coordinate.specs.Registers.{_>>_, unit}
+use Rattle.rules.specs.Rules.{reach}
+use Rattle.coordinate.proofs.Points.{Extent, extent, Reach, reaches}
+use Rattle.coordinate.proofs.Start.{cubic, square, linear, reckoned-start}
 use Rattle.engine.proofs.start_one.Statement.{statement}
 use Rattle.engine.proofs.start_one.Tie as tie
 
@@ -20,8 +22,8 @@ n c = c .args .n
 at-points : (c : tie.Start) → Extent 16384 (p c)
 at-points c = extent (p c) (c .pre .1)
 
-of-steps : (c : tie.Start) → Reach 682 (p c)
-of-steps c = reaches (p c) (c .pre .2)
+of-steps : (c : tie.Start) → Reach reach (p c)
+of-steps c = reaches reach (p c) (c .pre .2)
 
 -- ---- the numbers of the code
 

@@ -3,7 +3,10 @@ use mathlib.Core.Path.{_≡_, sym, _∙_}
 use mathlib.Core.Bool.{_&&_, true, false}
 use borrow.Author.Needs.{needs}
 use borrow.Author.Tests.{not-true, not-false}
-use Rattle.engine.specs.Start.{startRefusal, areCoordinates, areNear}
+use Rattle.rules.specs.Rules.{reach}
+use Rattle.coordinate.specs.Points.{areCoordinates, areNear}
+use Rattle.engine.specs.Coordinates.{every}
+use Rattle.engine.specs.Start.{startRefusal}
 use Rattle.engine.proofs.start_refusal.Statement.{statement}
 use Rattle.engine.proofs.start_refusal.Tie as tie
 
@@ -14,7 +17,7 @@ coordinates-requires-2 : tie.Need-coordinates-requires-2
 coordinates-requires-2 c κs = search needs
 
 returns : tie.Need-returns
-unfolding startRefusal
+unfolding startRefusal every
 returns c =
     let out : (areCoordinates (c .before .before .before .args .x) && areCoordinates (c .before .before .before .args .y)) ≡ false = (λ i. sym (c .before .before .coordinates .ensures) i && sym (c .before .coordinates2 .ensures) i) ∙ not-true _ (c .if1 .taken) in
     simp out
@@ -29,23 +32,23 @@ inside : (c : tie.Else1) → (areCoordinates (c .before .before .before .args .x
 inside c = (λ i. sym (c .before .before .coordinates .ensures) i && sym (c .before .coordinates2 .ensures) i) ∙ not-false _ (c .if1 .left)
 
 returns-2 : tie.Need-returns-2
-unfolding startRefusal
+unfolding startRefusal every
 returns-2 c =
-    let far : (areNear (c .before .before .before .before .before .before .args .x) && areNear (c .before .before .before .before .before .before .args .y)) ≡ false = (λ i. sym (c .before .before .near .ensures) i && sym (c .before .near2 .ensures) i) ∙ not-true _ (c .if2 .taken) in
+    let far : (areNear reach (c .before .before .before .before .before .before .args .x) && areNear reach (c .before .before .before .before .before .before .args .y)) ≡ false = (λ i. sym (c .before .before .near .ensures) i && sym (c .before .near2 .ensures) i) ∙ not-true _ (c .if2 .taken) in
     simp (inside (c .before .before .before), far)
 
-close : (c : tie.Else2) → (areNear (c .before .before .before .before .before .before .args .x) && areNear (c .before .before .before .before .before .before .args .y)) ≡ true
+close : (c : tie.Else2) → (areNear reach (c .before .before .before .before .before .before .args .x) && areNear reach (c .before .before .before .before .before .before .args .y)) ≡ true
 close c = (λ i. sym (c .before .before .near .ensures) i && sym (c .before .near2 .ensures) i) ∙ not-false _ (c .if2 .left)
 
 level-requires : tie.Need-level-requires
 level-requires c κs = search needs
 
 returns-3 : tie.Need-returns-3
-unfolding startRefusal
+unfolding startRefusal every
 returns-3 c = simp (inside (c .before .before .before .before .before), close (c .before .before), sym (c .before .level .ensures) ∙ not-true _ (c .if3 .taken))
 
 returns-4 : tie.Need-returns-4
-unfolding startRefusal
+unfolding startRefusal every
 returns-4 c = simp (inside (c .before .before .before .before .before), close (c .before .before), sym (c .before .level .ensures) ∙ not-false _ (c .if3 .left))
 
 pub start-refusal-spec : {M : Type 1} → statement M

@@ -1,12 +1,13 @@
 -- A refusal hands the drawing back; otherwise both coordinates are doubled and land.
-use mathlib.Core.Path.{_≡_, sym, _∙_}
+use mathlib.Core.Path.{_≡_, refl, sym, _∙_}
 use Prim.Native.Nat.{_-_, _≤_}
+use Rattle.rules.specs.Rules.{finest}
 use borrow.Author.Needs.{needs}
 use borrow.Author.Tests.{ltb-true}
-use Rattle.rules.proofs.Laws.{rule-kept}
-use Rattle.engine.specs.Registers.{double}
-use Rattle.engine.specs.Drawing.{callRefusal, turned, landed}
-use Rattle.engine.proofs.Answers.{call-opens, call-refused, call-landed}
+use Rattle.rules.proofs.Refusals.{rule-kept}
+use Rattle.coordinate.specs.Registers.{double}
+use Rattle.engine.specs.Drawing.{callRefusal}
+use Rattle.engine.proofs.Answers.{call-opens, call-refused, call-lands}
 use Rattle.engine.proofs.Drawing.double.Statement.{statement}
 use Rattle.engine.proofs.Drawing.double.Tie as tie
 
@@ -19,13 +20,13 @@ refuse-requires c κs = search needs
 returns : tie.Need-returns
 returns c =
     c .refuse .ensures
-    ∙ call-refused 11 double (c .before .before .before .args .self) (c .before .before .double-refusal .ensures) (c .before .if1 .taken)
+    ∙ call-refused finest double (c .before .before .before .args .self) (c .before .before .double-refusal .ensures) (c .before .if1 .taken)
 
-passes : (c : tie.Else1) → callRefusal 11 double (c .before .before .args .self .level) (c .before .before .args .self .q) ≡ 0
+passes : (c : tie.Else1) → callRefusal finest double (c .before .before .args .self .level) (c .before .before .args .self .q) ≡ 0
 passes c = sym (c .before .double-refusal .ensures) ∙ c .if1 .left
 
-low : (c : tie.Else1) → c .before .before .args .self .level ≤ 11
-low c = call-opens 11 double _ _ (passes c) .0 .inside .level
+low : (c : tie.Else1) → c .before .before .args .self .level ≤ finest
+low c = call-opens finest double _ _ (passes c) .0 .inside .level
 
 double-one-requires : tie.Need-double-one-requires
 double-one-requires c κs = low c
@@ -35,21 +36,15 @@ double-one-requires-2 c κs = low (c .before)
 
 sub-land : tie.Need-sub-land
 sub-land c =
-    let e = rule-kept _ _ _ (call-opens 11 double _ _ (passes (c .before .before)) .1) in
+    let e = rule-kept _ _ _ (call-opens finest double _ _ (passes (c .before .before)) .1) in
     ltb-true _ _ (e .0)
 
 land-requires : tie.Need-land-requires
 land-requires c κs = search needs
 
 returns-2 : tie.Need-returns-2
-unfolding turned
 returns-2 c =
-    let d = c .before .before .before .before .before .args .self in
-    let x = c .before .before .double-one .ensures in
-    let y = c .before .double-one2 .ensures in
-    c .land .ensures
-    ∙ (λ i. landed d (record { level = d .level - 1; q = d .q; x = x i; y = y i }))
-    ∙ sym (call-landed 11 double d (passes (c .before .before .before)))
+    call-lands finest double _ _ _ _ _ (passes (c .before .before .before)) (c .before .before .double-one .ensures) (c .before .double-one2 .ensures) refl (c .land .ensures)
 
 pub double-spec : {M : Type 1} → statement M
 double-spec =

@@ -1,11 +1,12 @@
 -- A refusal hands the drawing back; otherwise both coordinates are halved and land.
-use mathlib.Core.Path.{_≡_, sym, _∙_}
+use mathlib.Core.Path.{_≡_, refl, sym, _∙_}
 use Prim.Native.Nat.{_+_, _≤_}
 use native.Mathlib.Omega.{arith}
+use Rattle.rules.specs.Rules.{finest}
 use borrow.Author.Needs.{needs}
-use Rattle.engine.specs.Registers.{halve}
-use Rattle.engine.specs.Drawing.{callRefusal, turned, landed}
-use Rattle.engine.proofs.Answers.{call-opens, call-refused, call-landed}
+use Rattle.coordinate.specs.Registers.{halve}
+use Rattle.engine.specs.Drawing.{callRefusal}
+use Rattle.engine.proofs.Answers.{call-opens, call-refused, call-lands}
 use Rattle.engine.proofs.Drawing.halve.Statement.{statement}
 use Rattle.engine.proofs.Drawing.halve.Tie as tie
 
@@ -18,13 +19,13 @@ refuse-requires c κs = search needs
 returns : tie.Need-returns
 returns c =
     c .refuse .ensures
-    ∙ call-refused 11 halve (c .before .before .before .args .self) (c .before .before .halve-refusal .ensures) (c .before .if1 .taken)
+    ∙ call-refused finest halve (c .before .before .before .args .self) (c .before .before .halve-refusal .ensures) (c .before .if1 .taken)
 
-passes : (c : tie.Else1) → callRefusal 11 halve (c .before .before .args .self .level) (c .before .before .args .self .q) ≡ 0
+passes : (c : tie.Else1) → callRefusal finest halve (c .before .before .args .self .level) (c .before .before .args .self .q) ≡ 0
 passes c = sym (c .before .halve-refusal .ensures) ∙ c .if1 .left
 
-low : (c : tie.Else1) → c .before .before .args .self .level ≤ 11
-low c = call-opens 11 halve _ _ (passes c) .0 .inside .level
+low : (c : tie.Else1) → c .before .before .args .self .level ≤ finest
+low c = call-opens finest halve _ _ (passes c) .0 .inside .level
 
 halve-one-requires : tie.Need-halve-one-requires
 halve-one-requires c κs = low c
@@ -39,14 +40,8 @@ land-requires : tie.Need-land-requires
 land-requires c κs = search needs
 
 returns-2 : tie.Need-returns-2
-unfolding turned
 returns-2 c =
-    let d = c .before .before .before .before .before .args .self in
-    let x = c .before .before .halve-one .ensures in
-    let y = c .before .halve-one2 .ensures in
-    c .land .ensures
-    ∙ (λ i. landed d (record { level = d .level + 1; q = d .q; x = x i; y = y i }))
-    ∙ sym (call-landed 11 halve d (passes (c .before .before .before)))
+    call-lands finest halve _ _ _ _ _ (passes (c .before .before .before)) (c .before .before .halve-one .ensures) (c .before .halve-one2 .ensures) refl (c .land .ensures)
 
 pub halve-spec : {M : Type 1} → statement M
 halve-spec =

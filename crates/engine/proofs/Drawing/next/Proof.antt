@@ -1,9 +1,11 @@
 -- A refusal names no operation; otherwise the two tests choose as `chosen` does.
 use mathlib.Core.Path.{_≡_, sym, _∙_}
 use Prim.Native.Nat.{_≤_}
+use Rattle.rules.specs.Rules.{finest}
+use Rattle.rules.proofs.Refusals.{refuses}
 use borrow.Author.Needs.{needs}
-use Rattle.engine.specs.Choice.{choiceRefusal, choice, chosen}
-use Rattle.engine.proofs.Answers.{choice-refused, choice-opens}
+use Rattle.engine.specs.Choice.{choiceRefusal, refusedBy, choice, chosen}
+use Rattle.engine.proofs.Answers.{choice-opens}
 use Rattle.engine.proofs.Drawing.next.Statement.{statement}
 use Rattle.engine.proofs.Drawing.next.Tie as tie
 
@@ -11,15 +13,15 @@ choice-refusal-requires : tie.Need-choice-refusal-requires
 choice-refusal-requires c κs = search needs
 
 returns : tie.Need-returns
+unfolding choice
 returns c =
-    let s = c .before .before in
-    choice-refused 11 (s .args .upper) (s .args .lower) (s .args .self) (c .before .choice-refusal .ensures) (c .if1 .taken)
+    refuses refusedBy _ (c .before .choice-refusal .ensures) (c .if1 .taken)
 
-passes : (c : tie.Else1) → choiceRefusal 11 (c .before .before .args .upper) (c .before .before .args .lower) (c .before .before .args .self .level) (c .before .before .args .self .q) ≡ 0
+passes : (c : tie.Else1) → choiceRefusal finest (c .before .before .args .upper) (c .before .before .args .lower) (c .before .before .args .self .level) (c .before .before .args .self .q) ≡ 0
 passes c = sym (c .before .choice-refusal .ensures) ∙ c .if1 .left
 
-low : (c : tie.Else1) → c .before .before .args .self .level ≤ 11
-low c = choice-opens 11 (c .before .before .args .upper) (c .before .before .args .lower) _ _ (passes c) .1 .inside .level
+low : (c : tie.Else1) → c .before .before .args .self .level ≤ finest
+low c = choice-opens finest (c .before .before .args .upper) (c .before .before .args .lower) _ _ (passes c) .1 .inside .level
 
 wants-halve-requires : tie.Need-wants-halve-requires
 wants-halve-requires c κs = low c

@@ -1,8 +1,13 @@
--- A refusal gives zeros; otherwise the points are lawful, and the two coordinates begin as `startRegisters` says.
+-- A refusal gives zeros; otherwise the points are lawful, and the coordinates begin as `startRegisters` says.
 use mathlib.Core.Path.{_≡_, sym, _∙_}
 use borrow.Author.Needs.{needs}
-use Rattle.engine.specs.Start.{startRefusal}
-use Rattle.engine.proofs.Accepted.{Accepted, accepted, start-refused, start-begins}
+use Rattle.rules.specs.Rules.{finest}
+use Rattle.rules.proofs.Refusals.{refuses}
+use Rattle.coordinate.specs.Course.{cubic}
+use Rattle.engine.specs.Coordinates.{in-x, in-y, pick}
+use Rattle.engine.specs.Drawing.{refused}
+use Rattle.engine.specs.Start.{startRefusal, nothingDrawn, started}
+use Rattle.engine.proofs.Accepted.{Accepted, accepted, start-begins}
 use Rattle.engine.proofs.Drawing.start.Statement.{statement}
 use Rattle.engine.proofs.Drawing.start.Tie as tie
 
@@ -16,23 +21,23 @@ refuse-requires : tie.Need-refuse-requires
 refuse-requires c κs = search needs
 
 returns : tie.Need-returns
+unfolding started
 returns c =
-    let s = c .before .before .before .before in
     c .refuse .ensures
-    ∙ (λ i. record { refusal = c .before .before .before .start-refusal .result; drawing = c .before .nothing .ensures i })
-    ∙ start-refused 11 (s .args .x) (s .args .y) (s .args .level) (c .before .before .before .start-refusal .ensures) (c .before .before .if1 .taken)
+    ∙ (λ i. refused (c .before .nothing .ensures i) (c .before .before .before .start-refusal .result))
+    ∙ refuses (refused nothingDrawn) _ (c .before .before .before .start-refusal .ensures) (c .before .before .if1 .taken)
 
-passes : (c : tie.Else1) → startRefusal 11 (c .before .before .args .x) (c .before .before .args .y) (c .before .before .args .level) ≡ 0
+passes : (c : tie.Else1) → startRefusal finest (pick (c .before .before .args .x) (c .before .before .args .y)) (c .before .before .args .level) ≡ 0
 passes c = sym (c .before .start-refusal .ensures) ∙ c .if1 .left
 
-ok : (c : tie.Else1) → Accepted 11 (c .before .before .args .x) (c .before .before .args .y) (c .before .before .args .level)
-ok c = accepted 11 _ _ _ (passes c)
+ok : (c : tie.Else1) → Accepted finest (pick (c .before .before .args .x) (c .before .before .args .y)) (c .before .before .args .level)
+ok c = accepted finest _ _ (passes c)
 
 start-one-requires : tie.Need-start-one-requires
-start-one-requires c κs = (ok c .level, ok c .x .coordinates, ok c .x .near)
+start-one-requires c κs = (ok c .level, ok c .coordinates in-x, ok c .near in-x)
 
 start-one-requires-2 : tie.Need-start-one-requires-2
-start-one-requires-2 c κs = let k = ok (c .before) in (k .level, k .y .coordinates, k .y .near)
+start-one-requires-2 c κs = let k = ok (c .before) in (k .level, k .coordinates in-y, k .near in-y)
 
 returns-2 : tie.Need-returns-2
 returns-2 c =
@@ -41,7 +46,7 @@ returns-2 c =
       refusal = 0;
       drawing = record { level = s .args .level; q = 0; x = c .before .start-one .ensures i; y = c .start-one2 .ensures i };
     })
-    ∙ sym (start-begins 11 (s .args .x) (s .args .y) (s .args .level) (passes (c .before .before)))
+    ∙ sym (start-begins finest _ (s .args .level) (passes (c .before .before)))
 
 pub start-spec : {M : Type 1} → statement M
 start-spec =

@@ -1,9 +1,10 @@
--- The four registers of one coordinate: the start, and the three operations at level n. All values on the right are the old ones.
+-- The four registers of one coordinate: the start, the three operations at level n, and 32 bits.
+use mathlib.Core.Bool.{Bool, _&&_}
 use Prim.Native.Nat.{ℕ, _+_, _^_}
-use lib.IntN.{ℤ, pos, _+ℤ_, _-ℤ_, _*ℤ_}
-use lib.Signed.{shrZ}
-use Rattle.engine.specs.declared.Registers.{Registers}
-use Rattle.engine.specs.Curve.{Curve}
+use lib.IntN.{ℤ, pos, negsuc, _+ℤ_, _-ℤ_, _*ℤ_}
+use lib.Signed.{shrZ, leZ}
+use Rattle.coordinate.specs.declared.Registers.{Registers}
+use Rattle.coordinate.specs.Curve.{Curve}
 
 pub data Operation : Type 0 where
   halve : Operation
@@ -30,6 +31,7 @@ startRegisters n f =
       d = unit *ℤ f .D;
     }
 
+-- All values on the right are the old ones.
 -- halve: a' = a >> 1; b' = b − a'; c' = c − (b' >> (n+2))
 -- double: a' = 2a; b' = b + a; c' = c + (b >> (n+1))
 -- step: d' = d + (c >> n); c' = c + (b >> n); b' = b + a
@@ -42,3 +44,10 @@ turn double n r =
     record { a = pos 2 *ℤ r .a; b = r .b +ℤ r .a; c = r .c +ℤ (r .b >> (n + 1)); d = r .d }
 turn step n r =
     record { a = r .a; b = r .b +ℤ r .a; c = r .c +ℤ (r .b >> n); d = r .d +ℤ (r .c >> n) }
+
+-- a register is a signed number of 32 bits
+abbrev pub isRegister : ℤ → Bool
+isRegister z = leZ (negsuc 2147483647) z && leZ z (pos 2147483647)
+
+unfoldable pub areRegisters : Registers → Bool
+areRegisters r = isRegister (r .a) && isRegister (r .b) && isRegister (r .c) && isRegister (r .d)

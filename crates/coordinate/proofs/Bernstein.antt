@@ -1,25 +1,12 @@
 -- The coefficients A, B, C, D are those of the cubic with these control points: Bernstein's form, with t = 2^F − q still to go.
-use mathlib.Core.Path.{_≡_, ap, _∙_}
+use mathlib.Core.Path.{_≡_}
 use Prim.Native.Nat.{ℕ, _+_, _*_, _^_}
-use native.Mathlib.Omega.{arith}
-use lib.Pow.{pow-add}
 use lib.IntN.{pos, _+ℤ_, _*ℤ_}
+use Rattle.numbers.proofs.Multiples.{square, cube}
 use Rattle.numbers.proofs.Ring.{#, _:+_, _:*_, ring}
-use Rattle.engine.specs.declared.Control.{Control}
-use Rattle.engine.specs.Curve.{curve, exact}
-use Rattle.engine.proofs.Begin.{thirdE, secondE, firstE}
-
-pub square : (F : ℕ) → 2 ^ (2 * F) ≡ 2 ^ F * 2 ^ F
-square F = ap (λ (k : ℕ). 2 ^ k) (twice F) ∙ pow-add 2 F F
-  where
-    twice : (F : ℕ) → 2 * F ≡ F + F
-    twice F = omega arith
-
-pub cube : (F : ℕ) → 2 ^ (3 * F) ≡ 2 ^ F * 2 ^ F * 2 ^ F
-cube F = ap (λ (k : ℕ). 2 ^ k) (thrice F) ∙ pow-add 2 (F + F) F ∙ ap (λ (k : ℕ). k * 2 ^ F) (pow-add 2 F F)
-  where
-    thrice : (F : ℕ) → 3 * F ≡ F + F + F
-    thrice F = omega arith
+use Rattle.coordinate.specs.declared.Control.{Control}
+use Rattle.coordinate.specs.Curve.{curve, exact}
+use Rattle.coordinate.proofs.Start.{thirdE, secondE, firstE}
 
 pub bernstein : (F : ℕ) (p : Control) (q t : ℕ) → q + t ≡ 2 ^ F
     → exact F (curve p) q

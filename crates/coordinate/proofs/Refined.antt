@@ -11,10 +11,10 @@ use lib.Signed.{shrZ, _≤ℤ_, ≤ℤ-refl}
 use Rattle.numbers.proofs.Ring.{#, _:+_, _:-_, _:*_, ring}
 use Rattle.numbers.proofs.Order.{≤ℤ-trans, nat, less, _⊕_, _⊗_, gap, certified}
 use Rattle.numbers.proofs.Floor.{floor-low, floor-high, floor-multiple}
-use Rattle.engine.specs.declared.Registers.{Registers}
-use Rattle.engine.specs.Curve.{Curve}
-use Rattle.engine.specs.Registers.{halve, double, step, turn, _>>_}
-use Rattle.engine.proofs.Exact.{alpha, beta, alphaOf, betaOf, lagOf, alphaE, betaE, halve-lag-low, halve-lag-high}
+use Rattle.coordinate.specs.declared.Registers.{Registers}
+use Rattle.coordinate.specs.Curve.{Curve}
+use Rattle.coordinate.specs.Registers.{halve, double, step, turn, _>>_}
+use Rattle.coordinate.proofs.Exact.{alpha, beta, alphaOf, betaOf, lagOf, alphaE, betaE, halve-lag-low, halve-lag-high}
 
 -- ---- a and b
 

@@ -5,8 +5,8 @@ use native.Mathlib.Omega.{arith}
 use lib.Dec.{lit<}
 use lib.IntN.{ℤ, pos, _+ℤ_, _-ℤ_, _*ℤ_, +ℤ-negℤ-cancel, -ℤ-+ℤ-cancel}
 use Rattle.numbers.proofs.Floor.{floor-multiple}
-use Rattle.engine.specs.declared.Registers.{Registers}
-use Rattle.engine.specs.Registers.{halve, double, turn, _>>_}
+use Rattle.coordinate.specs.declared.Registers.{Registers}
+use Rattle.coordinate.specs.Registers.{halve, double, turn, _>>_}
 
 two-above : (n : ℕ) → suc n + 1 ≡ n + 2
 two-above n = omega arith

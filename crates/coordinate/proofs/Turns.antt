@@ -10,14 +10,14 @@ use lib.IntN.{ℤ, pos, _+ℤ_, _-ℤ_, _*ℤ_}
 use lib.Signed.{shrZ, _≤ℤ_, ≤ℤ-refl}
 use Rattle.numbers.proofs.Ring.{#, _:+_, _:-_, _:*_, ring}
 use Rattle.numbers.proofs.Order.{nat, less}
+use Rattle.numbers.proofs.Multiples.{next-multiple}
 use Rattle.numbers.proofs.Floor.{floor-low, floor-high, floor-multiple}
-use Rattle.engine.specs.declared.Registers.{Registers}
-use Rattle.engine.specs.Curve.{Curve}
-use Rattle.engine.specs.Registers.{halve, double, step, turn, startRegisters, unit, _>>_}
-use Rattle.engine.proofs.Back.{halve-after-double}
-use Rattle.engine.proofs.Stays.{next-multiple}
-use Rattle.engine.proofs.Exact.{alpha, drift, alphaOf, lagOf, missOf, placeE, step-lag-low, step-lag-high, step-miss, step-low, step-high, drift-low, drift-high, start-low, start-high}
-use Rattle.engine.proofs.Refined.{Exactly, halve-exact, double-exact, step-exact, refined, next-levels, Bracket, bracket}
+use Rattle.coordinate.specs.declared.Registers.{Registers}
+use Rattle.coordinate.specs.Curve.{Curve}
+use Rattle.coordinate.specs.Registers.{halve, double, step, turn, startRegisters, unit, _>>_}
+use Rattle.coordinate.proofs.Back.{halve-after-double}
+use Rattle.coordinate.proofs.Exact.{alpha, drift, alphaOf, lagOf, missOf, placeE, step-lag-low, step-lag-high, step-miss, step-low, step-high, drift-low, drift-high, start-low, start-high}
+use Rattle.coordinate.proofs.Refined.{Exactly, halve-exact, double-exact, step-exact, refined, next-levels, Bracket, bracket}
 
 -- G = 2^F and κ·G = 65,536; the level is n, with j finer ones below it
 pub record On (κ G : ℕ) (f : Curve) (n j q : ℕ) (r : Registers) : Type 0 where

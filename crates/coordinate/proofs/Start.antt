@@ -1,6 +1,5 @@
 -- The start, by the differences of neighbours and with nested floors, as the code reckons it.
 use mathlib.Core.Path.{_≡_, sym, ap, _∙_}
-use mathlib.Core.Bool.{true}
 use Prim.Native.Nat.{ℕ, _+_, _-_, _^_, _≤_}
 use native.Mathlib.Omega.{arith}
 use lib.IntN.{ℤ, pos, _+ℤ_, _-ℤ_, _*ℤ_}
@@ -9,50 +8,10 @@ use lib.Signed.{shrZ}
 use Rattle.numbers.proofs.Ring.{Ex, #, _:+_, _:-_, _:*_, ring}
 use Rattle.numbers.proofs.Parts.{*ℤ-assoc}
 use Rattle.numbers.proofs.Floor.{floor-plus, floor-floor, floor-multiple}
-use Rattle.numbers.proofs.Size.{Size}
-use Rattle.numbers.proofs.Tests.{and-three, and-four}
-use Rattle.rules.specs.Rules.{isCoordinate, areNeighbours, reach}
-use Rattle.rules.proofs.Laws.{coordinate-size, neighbours-size}
-use Rattle.engine.specs.declared.Control.{Control}
-use Rattle.engine.specs.declared.Registers.{Registers}
-use Rattle.engine.specs.Curve.{Curve, curve}
-use Rattle.engine.specs.Registers.{_>>_, unit, startRegisters}
-use Rattle.engine.specs.Start.{areCoordinates, areNear}
-
--- ---- lawful control points
-
--- how far the points are from 0, and neighbours from each other
-pub record Extent (H : ℕ) (p : Control) : Type 0 where
-  pub p0 : Size (p .p0) H
-  pub p1 : Size (p .p1) H
-  pub p2 : Size (p .p2) H
-  pub p3 : Size (p .p3) H
-
-pub record Reach (W : ℕ) (p : Control) : Type 0 where
-  pub first : Size (p .p1 -ℤ p .p0) W
-  pub second : Size (p .p2 -ℤ p .p1) W
-  pub third : Size (p .p3 -ℤ p .p2) W
-
-pub extent : (p : Control) → areCoordinates p ≡ true → Extent 16384 p
-unfolding areCoordinates
-extent p e =
-    let t = and-four (isCoordinate (p .p0)) (isCoordinate (p .p1)) (isCoordinate (p .p2)) (isCoordinate (p .p3)) e in
-    record {
-      p0 = coordinate-size (p .p0) (t .0);
-      p1 = coordinate-size (p .p1) (t .1);
-      p2 = coordinate-size (p .p2) (t .2);
-      p3 = coordinate-size (p .p3) (t .3);
-    }
-
-pub reaches : (p : Control) → areNear p ≡ true → Reach reach p
-unfolding areNear
-reaches p e =
-    let t = and-three (areNeighbours (p .p0) (p .p1)) (areNeighbours (p .p1) (p .p2)) (areNeighbours (p .p2) (p .p3)) e in
-    record {
-      first = neighbours-size (p .p0) (p .p1) (t .0);
-      second = neighbours-size (p .p1) (p .p2) (t .1);
-      third = neighbours-size (p .p2) (p .p3) (t .2);
-    }
+use Rattle.coordinate.specs.declared.Control.{Control}
+use Rattle.coordinate.specs.declared.Registers.{Registers}
+use Rattle.coordinate.specs.Curve.{Curve, curve}
+use Rattle.coordinate.specs.Registers.{_>>_, unit, startRegisters}
 
 -- ---- the start's a is whole: 65,536·6A·δ with no floor, and so is b
 

@@ -6,8 +6,8 @@ use Rattle.numbers.proofs.Ring.{#, _:+_, _:-_, _:*_, ring}
 use Rattle.numbers.proofs.Order.{nat, _⊕_, gap, certified}
 use Rattle.numbers.proofs.Floor.{floor-is}
 use Rattle.numbers.proofs.Size.{Size, size-bounds}
-use Rattle.engine.specs.declared.Registers.{Registers}
-use Rattle.engine.specs.Shown.{pixel}
+use Rattle.coordinate.specs.declared.Registers.{Registers}
+use Rattle.coordinate.specs.Shown.{pixel}
 
 pub shows : (r : Registers) (p : ℤ) → Size (r .d -ℤ pos 65536 *ℤ p) 32767 → pixel r ≡ p
 unfolding pixel

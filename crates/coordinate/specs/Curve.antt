@@ -1,7 +1,7 @@
 -- The exact curve of one coordinate, f(t) = A·t³ + B·t² + C·t + D for t from 0 to 1. It starts at p0, the first control point.
 use Prim.Native.Nat.{ℕ, _*_, _^_}
 use lib.IntN.{ℤ, pos, _+ℤ_, _-ℤ_, _*ℤ_}
-use Rattle.engine.specs.declared.Control.{Control}
+use Rattle.coordinate.specs.declared.Control.{Control}
 
 pub record Curve : Type 0 where
   pub A : ℤ

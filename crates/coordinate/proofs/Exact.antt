@@ -6,7 +6,7 @@ use Prim.Native.Nat.{ℕ}
 use lib.IntN.{ℤ, pos, _+ℤ_, _-ℤ_, _*ℤ_}
 use lib.Signed.{_≤ℤ_}
 use Rattle.numbers.proofs.Ring.{Ex, #, _:+_, _:-_, _:*_, ring}
-use Rattle.engine.specs.Curve.{Curve}
+use Rattle.coordinate.specs.Curve.{Curve}
 use Rattle.numbers.proofs.Order.{_⊕_, _⊗_, gap, certified}
 
 abbrev pub alpha : ℤ → ℤ → ℤ → ℤ

@@ -1,0 +1,55 @@
+-- Demand 3 for one coordinate: wherever the invariant holds of a tame course, its registers fit 32 bits and it stands where the course stands.
+use mathlib.Core.Path.{_≡_, refl, ap, _∙_, subst}
+use mathlib.Core.Bool.{true, _&&_}
+use Prim.Native.Nat.{ℕ, _+_, _*_, _^_, _≤_}
+use native.Mathlib.Nat.{le-trans, mul-le-mul-right}
+use native.Mathlib.Omega.{arith}
+use lib.Dec.{lit≤}
+use lib.Pow.{pow-mono}
+use lib.IntN.{ℤ, pos, negsuc, _*ℤ_}
+use borrow.Author.Tests.{le-leb}
+use Rattle.numbers.proofs.Size.{Size}
+use Rattle.coordinate.specs.declared.Registers.{Registers}
+use Rattle.coordinate.specs.Curve.{Curve}
+use Rattle.coordinate.specs.Course.{Course}
+use Rattle.coordinate.specs.Registers.{isRegister, areRegisters}
+use Rattle.coordinate.specs.Stands.{Stands}
+use Rattle.coordinate.proofs.Near.{At, near}
+use Rattle.coordinate.proofs.Sizes.{Tame, sizes}
+use Rattle.coordinate.proofs.Ends.{first-exact, first-shown, last-shown}
+
+-- ---- 32 bits
+
+-- a curve whose registers fit wherever the invariant holds
+unfoldable pub Bounded : ℕ → Curve → Type 0
+Bounded F f = (n j q : ℕ) (r : Registers) → At F f n j q r → areRegisters r ≡ true
+
+size-register : (z : ℤ) (m : ℕ) → m ≤ 2147483647 → Size z m → isRegister z ≡ true
+size-register (pos n) m h s = le-leb n 2147483647 (le-trans (s .le) h)
+size-register (negsuc n) m h s = rw (le-leb n 2147483647 (omega (arith, s .le))) refl
+
+pub bounded : (F : ℕ) (p : Course) → F ≤ 12 → Tame F p → Bounded F (p .curve)
+unfolding Bounded areRegisters
+bounded F p h t n j q r o =
+    let most : 2 ^ F ≤ 4096 = pow-mono {j = 12} h in
+    let s = sizes F p (omega arith) t n j q r o in
+    let a = size-register (r .a) (65536 * 32767) (lit≤ tt) (s .a) in
+    let b = size-register (r .b) (65536 * 32767) (lit≤ tt) (s .b) in
+    let c = size-register (r .c) (65536 * 32767 + 2 * 2 ^ F) (omega arith) (s .c) in
+    let d = size-register (r .d) (65536 * 16384 + 2 * 2 ^ F) (omega arith) (s .d) in
+    λ i. a i && b i && c i && d i
+
+-- ---- where it stands
+
+pub stands : (F : ℕ) (p : Course) (n j q : ℕ) (r : Registers) → F ≤ 12 → Tame F p → At F (p .curve) n j q r → Stands F p q r
+unfolding Bounded
+stands F p n j q r h t o =
+    let at-first : q ≡ 0 → r .d ≡ pos 65536 *ℤ p .first =
+    λ e. first-exact F (p .curve) n j r (omega arith) (subst (λ (t : ℕ). At F (p .curve) n j t r) e o) ∙ ap (λ z. pos 65536 *ℤ z) (t .starts) in
+    record {
+      fits = bounded F p h t n j q r o;
+      near = near F (p .curve) n j q r (omega arith) o (3 * 2 ^ F) (mul-le-mul-right (2 ^ F) (lit≤ tt));
+      first = at-first;
+      first-shown = λ e. first-shown r (p .first) (at-first e);
+      last-shown = λ e. last-shown F p n j r h t (subst (λ (t : ℕ). At F (p .curve) n j t r) e o);
+    }

@@ -1,0 +1,18 @@
+-- What demand 3 says of one coordinate at position q, at any finest level F: its registers fit 32 bits, d is less than 3·2^F of 65,536ths from
+-- the exact curve, the start is exactly the first point, and the last point is what is shown at the end.
+use mathlib.Core.Path.{_≡_}
+use mathlib.Core.Bool.{true}
+use Prim.Native.Nat.{ℕ, _*_, _^_, _<_}
+use lib.IntN.{pos, natAbs, _-ℤ_, _*ℤ_}
+use Rattle.coordinate.specs.declared.Registers.{Registers}
+use Rattle.coordinate.specs.Curve.{exact}
+use Rattle.coordinate.specs.Course.{Course}
+use Rattle.coordinate.specs.Registers.{areRegisters}
+use Rattle.coordinate.specs.Shown.{pixel}
+
+pub record Stands (F : ℕ) (p : Course) (q : ℕ) (r : Registers) : Type 0 where
+  pub fits : areRegisters r ≡ true
+  pub near : natAbs (r .d *ℤ pos (2 ^ (3 * F)) -ℤ pos 65536 *ℤ exact F (p .curve) q) < 3 * 2 ^ F * 2 ^ (3 * F)
+  pub first : q ≡ 0 → r .d ≡ pos 65536 *ℤ p .first
+  pub first-shown : q ≡ 0 → pixel r ≡ p .first
+  pub last-shown : q ≡ 2 ^ F → pixel r ≡ p .last

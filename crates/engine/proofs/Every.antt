@@ -1,0 +1,14 @@
+-- What is tested of every coordinate holds of each, and the other way round.
+use mathlib.Core.Path.{_≡_, ap₂}
+use mathlib.Core.Bool.{Bool, true, _&&_}
+use Rattle.numbers.proofs.Tests.{and-true}
+use Rattle.engine.specs.Coordinates.{Coordinate, in-x, in-y, every}
+
+pub every-true : (holds : Coordinate → Bool) → every holds ≡ true → (c : Coordinate) → holds c ≡ true
+unfolding every
+every-true holds e in-x = and-true (holds in-x) (holds in-y) e .0
+every-true holds e in-y = and-true (holds in-x) (holds in-y) e .1
+
+pub true-every : (holds : Coordinate → Bool) → ((c : Coordinate) → holds c ≡ true) → every holds ≡ true
+unfolding every
+true-every holds h = ap₂ _&&_ (h in-x) (h in-y)
