@@ -7,21 +7,23 @@ use native.Mathlib.Omega.{arith}
 use lib.Dec.{ltb}
 use lib.IntN.{pos}
 use borrow.Author.Tests.{lt-ltb, eq-eqb, ltb-true}
-use Rattle.rules.specs.Rules.{unless}
-use Rattle.rules.proofs.Laws.{rule-kept}
-use Rattle.engine.specs.declared.Registers.{Registers}
+use Rattle.rules.specs.Refusals.{unless}
+use Rattle.rules.proofs.Refusals.{rule-kept}
+use Rattle.coordinate.specs.declared.Registers.{Registers}
 use Rattle.engine.specs.declared.Drawing.{Drawing}
 use Rattle.engine.specs.declared.Moved.{Moved}
-use Rattle.engine.specs.Curve.{Curve}
-use Rattle.engine.specs.Registers.{halve, double, turn}
-use Rattle.engine.specs.Drawing.{stride, isAligned, turned, called}
-use Rattle.engine.proofs.Exact.{alpha}
-use Rattle.engine.proofs.Refined.{alpha-twice, two-steps}
+use Rattle.coordinate.specs.Curve.{Curve}
+use Rattle.coordinate.specs.Registers.{halve, double, turn}
+use Rattle.engine.specs.Drawing.{stride, isAligned, turned, moved, called}
+use Rattle.coordinate.proofs.Exact.{alpha}
+use Rattle.coordinate.proofs.Refined.{alpha-twice, two-steps}
 use Rattle.engine.proofs.Stays.{two-finer}
-use Rattle.engine.proofs.Back.{halve-after-double, double-after-halve}
-use Rattle.distance.specs.Calls.{ruled, settled}
-use Rattle.distance.proofs.Near.{At}
-use Rattle.distance.proofs.Kept.{Kept, Bounded, stride-below, allowed, less-one, kept-turned, call-settled}
+use Rattle.coordinate.proofs.Back.{halve-after-double, double-after-halve}
+use Rattle.engine.specs.Coordinates.{Coordinate, in-x, in-y, of}
+use Rattle.distance.specs.Calls.{ruled}
+use Rattle.coordinate.proofs.Near.{At}
+use Rattle.coordinate.proofs.Stands.{Bounded}
+use Rattle.distance.proofs.Kept.{Kept, stride-below, allowed, less-one, kept-turned, call-settled}
 
 -- ---- one coordinate
 
@@ -56,7 +58,7 @@ halve-allowed F n q h k before =
 
 -- ---- the drawing
 
-module _ (F : ℕ) (x y : Curve) (fx : Bounded F x) (fy : Bounded F y) (d : Drawing) (k : Kept F x y d) where
+module _ (F : ℕ) (f : Coordinate → Curve) (fits : (c : Coordinate) → Bounded F (f c)) (d : Drawing) (k : Kept F f d) where
   pub double-undoes-halve : ruled F halve (d .level) (d .q) ≡ 0 → called F double (called F halve d .drawing) ≡ record { refusal = 0; drawing = d }
   unfolding turned
   double-undoes-halve e =
@@ -64,16 +66,15 @@ module _ (F : ℕ) (x y : Curve) (fx : Bounded F x) (fy : Bounded F y) (d : Draw
       let before = allowed F halve n (d .q) e .0 in
       let h = ltb-true n F (rule-kept (ltb n F) 5 0 (allowed F halve n (d .q) e .1) .0) in
       let first : called F halve d ≡ record { refusal = 0; drawing = turned F halve d } =
-      call-settled F x y fx fy d halve k ∙ ap (λ (m : ℕ). settled m d (turned F halve d)) e in
+      call-settled F f fits d halve k ∙ ap (λ (m : ℕ). moved m d (turned F halve d)) e in
       let again : called F double (turned F halve d) ≡ record { refusal = 0; drawing = turned F double (turned F halve d) } =
-      call-settled F x y fx fy (turned F halve d) double (kept-turned F x y d halve k e)
-      ∙ ap (λ (m : ℕ). settled m (turned F halve d) (turned F double (turned F halve d))) (double-allowed F n (k .below) (d .q) (k .on-x .strides) (k .levels) h before (k .on-x .whole)) in
+      call-settled F f fits (turned F halve d) double (kept-turned F f d halve k e)
+      ∙ ap (λ (m : ℕ). moved m (turned F halve d) (turned F double (turned F halve d))) (double-allowed F n (k .below) (d .q) (k .on in-x .strides) (k .levels) h before (k .on in-x .whole)) in
       let level : n + 1 - 1 ≡ n = omega arith in
-      let in-x = double-halved F x n (k .below) (d .q) (d .x) (k .levels) h (k .on-x) in
-      let in-y = double-halved F y n (k .below) (d .q) (d .y) (k .levels) h (k .on-y) in
+      let same : (c : Coordinate) → turn double (n + 1) (turn halve n (of c d)) ≡ of c d = λ c. double-halved F (f c) n (k .below) (d .q) (of c d) (k .levels) h (k .on c) in
       ap (λ (m : Moved). called F double (m .drawing)) first
       ∙ again
-      ∙ (λ i. record { refusal = 0; drawing = record { level = level i; q = d .q; x = in-x i; y = in-y i } })
+      ∙ (λ i. record { refusal = 0; drawing = record { level = level i; q = d .q; x = same in-x i; y = same in-y i } })
 
   pub halve-undoes-double : ruled F double (d .level) (d .q) ≡ 0 → called F halve (called F double d .drawing) ≡ record { refusal = 0; drawing = d }
   unfolding turned
@@ -82,13 +83,12 @@ module _ (F : ℕ) (x y : Curve) (fx : Bounded F x) (fy : Bounded F y) (d : Draw
       let before = allowed F double n (d .q) e .0 in
       let h = ltb-true 0 n (rule-kept (ltb 0 n) 6 (unless (isAligned F n (d .q)) 8 0) (allowed F double n (d .q) e .1) .0) in
       let first : called F double d ≡ record { refusal = 0; drawing = turned F double d } =
-      call-settled F x y fx fy d double k ∙ ap (λ (m : ℕ). settled m d (turned F double d)) e in
+      call-settled F f fits d double k ∙ ap (λ (m : ℕ). moved m d (turned F double d)) e in
       let again : called F halve (turned F double d) ≡ record { refusal = 0; drawing = turned F halve (turned F double d) } =
-      call-settled F x y fx fy (turned F double d) halve (kept-turned F x y d double k e)
-      ∙ ap (λ (m : ℕ). settled m (turned F double d) (turned F halve (turned F double d))) (halve-allowed F n (d .q) h (omega (arith, k .levels)) before) in
+      call-settled F f fits (turned F double d) halve (kept-turned F f d double k e)
+      ∙ ap (λ (m : ℕ). moved m (turned F double d) (turned F halve (turned F double d))) (halve-allowed F n (d .q) h (omega (arith, k .levels)) before) in
       let level : n - 1 + 1 ≡ n = omega arith in
-      let in-x = halve-doubled n (d .x) h in
-      let in-y = halve-doubled n (d .y) h in
+      let same : (c : Coordinate) → turn halve (n - 1) (turn double n (of c d)) ≡ of c d = λ c. halve-doubled n (of c d) h in
       ap (λ (m : Moved). called F halve (m .drawing)) first
       ∙ again
-      ∙ (λ i. record { refusal = 0; drawing = record { level = level i; q = d .q; x = in-x i; y = in-y i } })
+      ∙ (λ i. record { refusal = 0; drawing = record { level = level i; q = d .q; x = same in-x i; y = same in-y i } })

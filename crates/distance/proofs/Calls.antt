@@ -7,29 +7,30 @@ use native.Mathlib.Nat.{add-zero, add-assoc, add-sub-of-le}
 use lib.Dec.{eqb, eqb·suc-zero}
 use lib.Pow.{pow-add}
 use Rattle.engine.specs.declared.Drawing.{Drawing}
-use Rattle.engine.specs.declared.Control.{Control}
 use Rattle.engine.specs.declared.Moved.{Moved}
-use Rattle.engine.specs.Curve.{Curve, curve}
-use Rattle.engine.specs.Registers.{Operation, halve, double, step}
-use Rattle.engine.specs.Drawing.{stride, turned, called}
+use Rattle.coordinate.specs.Curve.{Curve}
+use Rattle.coordinate.specs.Registers.{Operation, halve, double, step}
+use Rattle.engine.specs.Drawing.{stride, turned, moved, called}
+use Rattle.coordinate.proofs.Turns.{start-on}
+use Rattle.engine.specs.Coordinates.{Coordinate, in-x, in-y, of}
+use Rattle.coordinate.specs.Course.{Course}
 use Rattle.engine.specs.Start.{firstDrawing}
-use Rattle.engine.proofs.Turns.{start-on}
-use Rattle.distance.specs.Calls.{after, gain, travelled, ruled, settled}
-use Rattle.distance.proofs.Near.{scale}
-use Rattle.distance.proofs.Kept.{Kept, Bounded, kept-turned, call-settled}
+use Rattle.distance.specs.Calls.{after, gain, travelled, ruled}
+use Rattle.coordinate.proofs.Near.{At, scale}
+use Rattle.coordinate.proofs.Stands.{Bounded}
+use Rattle.distance.proofs.Kept.{Kept, kept-turned, call-settled}
 
 -- ---- the start
 
-pub first-kept : (F : ℕ) (x y : Control) (n : ℕ) → F ≤ 16 → n ≤ F → Kept F (curve x) (curve y) (firstDrawing x y n)
-first-kept F x y n h l =
+pub first-kept : (F : ℕ) (p : Coordinate → Course) (n : ℕ) → F ≤ 16 → n ≤ F → Kept F (λ c. p c .curve) (firstDrawing p n)
+first-kept F p n h l =
     let levels : n + (F - n) ≡ F = add-sub-of-le l in
     let G : 2 ^ F ≡ 2 ^ n * 2 ^ (F - n) = ap (λ (k : ℕ). 2 ^ k) (sym levels) ∙ pow-add 2 n (F - n) in
-    record {
-      below = F - n;
-      levels = levels;
-      on-x = start-on (2 ^ (16 - F)) (2 ^ F) (curve x) n (F - n) (scale F h) G;
-      on-y = start-on (2 ^ (16 - F)) (2 ^ F) (curve y) n (F - n) (scale F h) G;
-    }
+    record { below = F - n; levels = levels; on = starts G }
+  where
+    starts : 2 ^ F ≡ 2 ^ n * 2 ^ (F - n) → (c : Coordinate) → At F (p c .curve) n (F - n) 0 (of c (firstDrawing p n))
+    starts G in-x = start-on (2 ^ (16 - F)) (2 ^ F) (p in-x .curve) n (F - n) (scale F h) G
+    starts G in-y = start-on (2 ^ (16 - F)) (2 ^ F) (p in-y .curve) n (F - n) (scale F h) G
 
 -- ---- one call and lists of calls
 
@@ -37,37 +38,37 @@ pub after-one : (F : ℕ) (ops : List Operation) (op : Operation) (d : Drawing) 
 after-one F [] op d = refl
 after-one F (o ∷ ops) op d = after-one F ops op (called F o d .drawing)
 
-module _ (F : ℕ) (x y : Curve) (fx : Bounded F x) (fy : Bounded F y) where
-  settled-kept : (k : ℕ) (old new : Drawing) → Kept F x y old → (k ≡ 0 → Kept F x y new) → Kept F x y (settled k old new .drawing)
-  settled-kept zero old new h g = g refl
-  settled-kept (suc k) old new h g = h
+module _ (F : ℕ) (f : Coordinate → Curve) (fits : (c : Coordinate) → Bounded F (f c)) where
+  moved-kept : (k : ℕ) (old new : Drawing) → Kept F f old → (k ≡ 0 → Kept F f new) → Kept F f (moved k old new .drawing)
+  moved-kept zero old new h g = g refl
+  moved-kept (suc k) old new h g = h
 
-  call-kept : (d : Drawing) (op : Operation) → Kept F x y d → Kept F x y (called F op d .drawing)
+  call-kept : (d : Drawing) (op : Operation) → Kept F f d → Kept F f (called F op d .drawing)
   call-kept d op k =
-      subst (λ (m : Moved). Kept F x y (m .drawing)) (sym (call-settled F x y fx fy d op k))
-      (settled-kept (ruled F op (d .level) (d .q)) d (turned F op d) k (kept-turned F x y d op k))
+      subst (λ (m : Moved). Kept F f (m .drawing)) (sym (call-settled F f fits d op k))
+      (moved-kept (ruled F op (d .level) (d .q)) d (turned F op d) k (kept-turned F f d op k))
 
-  pub after-kept : (ops : List Operation) (d : Drawing) → Kept F x y d → Kept F x y (after F ops d)
+  pub after-kept : (ops : List Operation) (d : Drawing) → Kept F f d → Kept F f (after F ops d)
   after-kept [] d k = k
   after-kept (op ∷ ops) d k = after-kept ops (called F op d .drawing) (call-kept d op k)
 
   -- a call adds its gain to q
-  settled-still : (k : ℕ) (old new : Drawing) → new .q ≡ old .q → settled k old new .drawing .q ≡ old .q + 0
-  settled-still zero old new e = e ∙ sym (add-zero (old .q))
-  settled-still (suc k) old new e = sym (add-zero (old .q))
+  moved-still : (k : ℕ) (old new : Drawing) → new .q ≡ old .q → moved k old new .drawing .q ≡ old .q + 0
+  moved-still zero old new e = e ∙ sym (add-zero (old .q))
+  moved-still (suc k) old new e = sym (add-zero (old .q))
 
-  settled-gain : (k s : ℕ) (old new : Drawing) → new .q ≡ old .q + s
-      → settled k old new .drawing .q ≡ old .q + cond (eqb (settled k old new .refusal) 0) s 0
-  settled-gain zero s old new e = e
-  settled-gain (suc k) s old new e = sym (add-zero (old .q)) ∙ ap (λ (b : Bool). old .q + cond b s 0) (sym (eqb·suc-zero k))
+  moved-gain : (k s : ℕ) (old new : Drawing) → new .q ≡ old .q + s
+      → moved k old new .drawing .q ≡ old .q + cond (eqb (moved k old new .refusal) 0) s 0
+  moved-gain zero s old new e = e
+  moved-gain (suc k) s old new e = sym (add-zero (old .q)) ∙ ap (λ (b : Bool). old .q + cond b s 0) (sym (eqb·suc-zero k))
 
-  call-gain : (d : Drawing) (op : Operation) → Kept F x y d → called F op d .drawing .q ≡ d .q + gain F op d
+  call-gain : (d : Drawing) (op : Operation) → Kept F f d → called F op d .drawing .q ≡ d .q + gain F op d
   unfolding turned
-  call-gain d halve k = rw (call-settled F x y fx fy d halve k) (settled-still (ruled F halve (d .level) (d .q)) d (turned F halve d) refl)
-  call-gain d double k = rw (call-settled F x y fx fy d double k) (settled-still (ruled F double (d .level) (d .q)) d (turned F double d) refl)
-  call-gain d step k = rw (call-settled F x y fx fy d step k) (settled-gain (ruled F step (d .level) (d .q)) (stride F (d .level)) d (turned F step d) refl)
+  call-gain d halve k = rw (call-settled F f fits d halve k) (moved-still (ruled F halve (d .level) (d .q)) d (turned F halve d) refl)
+  call-gain d double k = rw (call-settled F f fits d double k) (moved-still (ruled F double (d .level) (d .q)) d (turned F double d) refl)
+  call-gain d step k = rw (call-settled F f fits d step k) (moved-gain (ruled F step (d .level) (d .q)) (stride F (d .level)) d (turned F step d) refl)
 
-  pub after-travelled : (ops : List Operation) (d : Drawing) → Kept F x y d → after F ops d .q ≡ d .q + travelled F ops d
+  pub after-travelled : (ops : List Operation) (d : Drawing) → Kept F f d → after F ops d .q ≡ d .q + travelled F ops d
   after-travelled [] d k = sym (add-zero (d .q))
   after-travelled (op ∷ ops) d k =
       after-travelled ops (called F op d .drawing) (call-kept d op k)

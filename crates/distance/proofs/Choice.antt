@@ -3,15 +3,18 @@ use mathlib.Core.Path.{_≡_, ap, _∙_}
 use mathlib.Core.Bool.{true}
 use Prim.Native.Nat.{ℕ, _^_, _<_}
 use borrow.Author.Tests.{lt-ltb}
-use Rattle.rules.specs.Rules.{unless, areLimits}
+use Rattle.rules.specs.Refusals.{unless, refusalOr}
+use Rattle.rules.specs.Rules.{areLimits}
 use Rattle.engine.specs.declared.Drawing.{Drawing}
-use Rattle.engine.specs.Curve.{Curve}
-use Rattle.engine.specs.Registers.{Operation}
-use Rattle.engine.specs.Drawing.{gated, turned, called}
-use Rattle.engine.specs.Choice.{chosen, choiceRefusal, says, replied, choice}
+use Rattle.coordinate.specs.Curve.{Curve}
+use Rattle.coordinate.specs.Registers.{Operation}
+use Rattle.engine.specs.Drawing.{gate, turned, moved, called}
+use Rattle.engine.specs.Choice.{chosen, choiceRefusal, says, refusedBy, choice}
 use Rattle.engine.proofs.Ends.{by-choice, halve-chosen, double-chosen}
-use Rattle.distance.specs.Calls.{ruled, settled}
-use Rattle.distance.proofs.Kept.{Kept, Bounded, kept-inside, call-settled}
+use Rattle.engine.specs.Coordinates.{Coordinate}
+use Rattle.distance.specs.Calls.{ruled}
+use Rattle.coordinate.proofs.Stands.{Bounded}
+use Rattle.distance.proofs.Kept.{Kept, kept-inside, call-settled}
 
 -- of any drawing before its end
 pub chosen-ruled : (F upper lower : ℕ) (d : Drawing) → d .q < 2 ^ F → ruled F (chosen F upper lower d) (d .level) (d .q) ≡ 0
@@ -26,15 +29,15 @@ chosen-ruled F upper lower d h =
     λ i. unless (end i) 5 (unless (above i) 7 (unless (c .aligned i) 8 0)))
     (λ e f i. unless (end i) 5 0)
 
-module _ (F : ℕ) (x y : Curve) (d : Drawing) (k : Kept F x y d) (upper lower : ℕ) where
+module _ (F : ℕ) (f : Coordinate → Curve) (d : Drawing) (k : Kept F f d) (upper lower : ℕ) where
   pub choice-answers : areLimits upper lower ≡ true → d .q < 2 ^ F → choice F upper lower d ≡ says (chosen F upper lower d)
-  unfolding choice choiceRefusal gated
+  unfolding choice choiceRefusal gate
   choice-answers l h =
-      let inside = kept-inside F x y d k in
+      let inside = kept-inside F f d k in
       let end = lt-ltb (d .q) (2 ^ F) h in
-      λ i. replied (unless (l i) 4 (unless (inside i) 10 (unless (end i) 5 0))) (chosen F upper lower d)
+      λ i. refusalOr (unless (l i) 4 (unless (inside i) 10 (unless (end i) 5 0))) refusedBy (says (chosen F upper lower d))
 
-  pub chosen-accepted : Bounded F x → Bounded F y → d .q < 2 ^ F → called F (chosen F upper lower d) d ≡ record { refusal = 0; drawing = turned F (chosen F upper lower d) d }
-  chosen-accepted fx fy h =
+  pub chosen-accepted : ((c : Coordinate) → Bounded F (f c)) → d .q < 2 ^ F → called F (chosen F upper lower d) d ≡ record { refusal = 0; drawing = turned F (chosen F upper lower d) d }
+  chosen-accepted fits h =
       let op = chosen F upper lower d in
-      call-settled F x y fx fy d op k ∙ ap (λ (m : ℕ). settled m d (turned F op d)) (chosen-ruled F upper lower d h)
+      call-settled F f fits d op k ∙ ap (λ (m : ℕ). moved m d (turned F op d)) (chosen-ruled F upper lower d h)

@@ -1,38 +1,34 @@
--- A drawing that keeps the invariant in both coordinates: each operation that level and q allow keeps it, its new registers fit 32 bits,
--- and so every call is answered as level and q say. x and y are any curves whose registers fit.
+-- A drawing that keeps the invariant in every coordinate: each operation that level and q allow keeps it, its new registers fit 32 bits,
+-- and so every call is answered as level and q say. Its curves are any whose registers fit.
 use mathlib.Core.Path.{_≡_, refl, sym, ap, ap₂, _∙_, subst, subst₂}
-use mathlib.Core.Bool.{Bool, true, cond, _&&_}
-use Prim.Native.Nat.{ℕ, zero, suc, _+_, _*_, _-_, _/_, _%_, _^_, _≤_, _<_}
-use native.Mathlib.Nat.{mul-mod-left, pow-succ', le-trans}
+use mathlib.Core.Bool.{Bool, true, false}
+use Prim.Native.Nat.{ℕ, zero, suc, _+_, _*_, _-_, _/_, _%_, _^_, _<_}
+use native.Mathlib.Nat.{mul-mod-left, pow-succ'}
 use native.Mathlib.Numerals.{add-one}
 use native.Mathlib.Omega.{arith}
-use lib.Dec.{ltb, lit≤}
-use lib.Pow.{pow-mono}
-use lib.IntN.{ℤ, pos, negsuc}
-use borrow.Author.Tests.{le-leb, ltb-true, eqb-true}
-use Rattle.numbers.proofs.Size.{Size}
-use Rattle.rules.specs.Rules.{unless, reach}
-use Rattle.rules.proofs.Laws.{rule-kept}
-use Rattle.engine.specs.declared.Registers.{Registers}
+use lib.Dec.{ltb}
+use borrow.Author.Tests.{ltb-true, eqb-true}
+use Rattle.numbers.proofs.Multiples.{multiple}
+use Rattle.rules.specs.Refusals.{unless, firstOf}
+use Rattle.rules.proofs.Refusals.{rule-kept}
+use Rattle.coordinate.specs.declared.Registers.{Registers}
+use Rattle.coordinate.specs.Curve.{Curve}
+use Rattle.coordinate.specs.Registers.{Operation, halve, double, step, turn, areRegisters}
+use Rattle.coordinate.proofs.Turns.{halve-on, double-on, step-on}
+use Rattle.coordinate.proofs.Near.{At}
+use Rattle.coordinate.proofs.Stands.{Bounded}
 use Rattle.engine.specs.declared.Drawing.{Drawing}
-use Rattle.engine.specs.declared.Control.{Control}
-use Rattle.engine.specs.Curve.{Curve, curve}
-use Rattle.engine.specs.Registers.{Operation, halve, double, step, turn}
-use Rattle.engine.specs.Drawing.{stride, isDrawing, isAligned, ownRefusal, gated, callRefusal, turned, isRegister, areRegisters, refused, landed, answered, called}
-use Rattle.engine.proofs.Begin.{extent, reaches}
-use Rattle.engine.proofs.Accepted.{Lawful}
-use Rattle.engine.proofs.Stays.{multiple, is-drawing}
-use Rattle.engine.proofs.Turns.{halve-on, double-on, step-on}
-use Rattle.distance.specs.Calls.{ruled, settled}
-use Rattle.distance.proofs.Near.{At}
-use Rattle.distance.proofs.Sizes.{sizes}
+use Rattle.engine.specs.Coordinates.{Coordinate, in-x, in-y, of}
+use Rattle.engine.specs.Drawing.{stride, isDrawing, isAligned, gate, ownRefusal, callRefusal, registersRefusal, turned, moved, called}
+use Rattle.engine.proofs.Every.{true-every}
+use Rattle.engine.proofs.Stays.{is-drawing}
+use Rattle.distance.specs.Calls.{ruled}
 
 -- `below` finer levels are left
-pub record Kept (F : ℕ) (x y : Curve) (d : Drawing) : Type 0 where
+pub record Kept (F : ℕ) (f : Coordinate → Curve) (d : Drawing) : Type 0 where
   pub below : ℕ
   pub levels : d .level + below ≡ F
-  pub on-x : At F x (d .level) below (d .q) (d .x)
-  pub on-y : At F y (d .level) below (d .q) (d .y)
+  pub on : (c : Coordinate) → At F (f c) (d .level) below (d .q) (of c d)
 
 -- ---- level and q
 
@@ -42,16 +38,21 @@ stride-below F n j e = ap (λ (k : ℕ). 2 ^ k) (left e)
     left : n + j ≡ F → F - n ≡ j
     left e = omega arith
 
-pub kept-inside : (F : ℕ) (x y : Curve) (d : Drawing) → Kept F x y d → isDrawing F (d .level) (d .q) ≡ true
-kept-inside F x y d k =
+pub kept-inside : (F : ℕ) (f : Coordinate → Curve) (d : Drawing) → Kept F f d → isDrawing F (d .level) (d .q) ≡ true
+kept-inside F f d k =
     let whole : d .q % stride F (d .level) ≡ 0 =
-    ap₂ (λ (u v : ℕ). u % v) (k .on-x .whole) (stride-below F (d .level) (k .below) (k .levels)) ∙ mul-mod-left (k .on-x .strides) (2 ^ k .below) in
-    is-drawing F (d .level) (d .q) (omega (arith, k .levels)) (k .on-x .within) whole
+    ap₂ (λ (u v : ℕ). u % v) (k .on in-x .whole) (stride-below F (d .level) (k .below) (k .levels)) ∙ mul-mod-left (k .on in-x .strides) (2 ^ k .below) in
+    is-drawing F (d .level) (d .q) (omega (arith, k .levels)) (k .on in-x .within) whole
 
-pub kept-ruled : (F : ℕ) (x y : Curve) (d : Drawing) (op : Operation) → Kept F x y d → callRefusal F op (d .level) (d .q) ≡ ruled F op (d .level) (d .q)
-unfolding callRefusal gated ruled
-kept-ruled F x y d op k =
-    ap (λ (b : Bool). unless b 10 (unless (ltb (d .q) (2 ^ F)) 5 (ownRefusal F op (d .level) (d .q)))) (kept-inside F x y d k)
+pub kept-ruled : (F : ℕ) (f : Coordinate → Curve) (d : Drawing) (op : Operation) → Kept F f d → callRefusal F op (d .level) (d .q) ≡ ruled F op (d .level) (d .q)
+unfolding callRefusal gate ruled
+kept-ruled F f d op k =
+    ap (λ (b : Bool). firstOf (unless b 10 (unless (ltb (d .q) (2 ^ F)) 5 0)) (ownRefusal F op (d .level) (d .q))) (kept-inside F f d k)
+    ∙ by-test (ltb (d .q) (2 ^ F))
+  where
+    by-test : (b : Bool) → firstOf (unless b 5 0) (ownRefusal F op (d .level) (d .q)) ≡ unless b 5 (ownRefusal F op (d .level) (d .q))
+    by-test true = refl
+    by-test false = refl
 
 -- ---- the operations that level and q allow
 
@@ -76,76 +77,60 @@ double-at F f (suc n) j q m r h e o =
     subst (λ (l : ℕ). At F f l (suc j) q (turn double (suc n) r)) (sym (less-one n))
     (double-on (2 ^ (16 - F)) (2 ^ F) f n j q m r (e ∙ ap (λ (t : ℕ). m * t) (sym (pow-succ' 2 j))) o)
 
-pub kept-turned : (F : ℕ) (x y : Curve) (d : Drawing) (op : Operation) → Kept F x y d → ruled F op (d .level) (d .q) ≡ 0 → Kept F x y (turned F op d)
+at-turned : (F : ℕ) (op : Operation) (d : Drawing) (g : Curve) (n j q : ℕ) (c : Coordinate) → At F g n j q (turn op (d .level) (of c d)) → At F g n j q (of c (turned F op d))
+unfolding turned
+at-turned F op d g n j q in-x h = h
+at-turned F op d g n j q in-y h = h
+
+pub kept-turned : (F : ℕ) (f : Coordinate → Curve) (d : Drawing) (op : Operation) → Kept F f d → ruled F op (d .level) (d .q) ≡ 0 → Kept F f (turned F op d)
 unfolding turned isAligned
-kept-turned F x y d halve k e =
+kept-turned F f d halve k e =
     let h = ltb-true (d .level) F (rule-kept (ltb (d .level) F) 5 0 (allowed F halve (d .level) (d .q) e .1) .0) in
     record {
       below = k .below - 1;
       levels = omega (arith, k .levels);
-      on-x = halve-at F x (d .level) (k .below) (d .q) (d .x) (k .levels) h (k .on-x);
-      on-y = halve-at F y (d .level) (k .below) (d .q) (d .y) (k .levels) h (k .on-y);
+      on = λ c. at-turned F halve d (f c) _ _ _ c (halve-at F (f c) (d .level) (k .below) (d .q) (of c d) (k .levels) h (k .on c));
     }
-kept-turned F x y d double k e =
+kept-turned F f d double k e =
     let two = 2 * stride F (d .level) in
-    let f = rule-kept (ltb 0 (d .level)) 6 (unless (isAligned F (d .level) (d .q)) 8 0) (allowed F double (d .level) (d .q) e .1) in
-    let h = ltb-true 0 (d .level) (f .0) in
+    let r = rule-kept (ltb 0 (d .level)) 6 (unless (isAligned F (d .level) (d .q)) 8 0) (allowed F double (d .level) (d .q) e .1) in
+    let h = ltb-true 0 (d .level) (r .0) in
     let s = stride-below F (d .level) (k .below) (k .levels) in
-    let even = eqb-true (d .q % two) 0 (rule-kept (isAligned F (d .level) (d .q)) 7 0 (f .1) .0) in
+    let even = eqb-true (d .q % two) 0 (rule-kept (isAligned F (d .level) (d .q)) 7 0 (r .1) .0) in
     let twice : d .q ≡ d .q / two * (2 * 2 ^ k .below) = multiple (d .q) two even ∙ ap (λ (t : ℕ). d .q / two * (2 * t)) s in
     record {
       below = suc (k .below);
       levels = omega (arith, k .levels);
-      on-x = double-at F x (d .level) (k .below) (d .q) (d .q / two) (d .x) h twice (k .on-x);
-      on-y = double-at F y (d .level) (k .below) (d .q) (d .q / two) (d .y) h twice (k .on-y);
+      on = λ c. at-turned F double d (f c) _ _ _ c (double-at F (f c) (d .level) (k .below) (d .q) (d .q / two) (of c d) h twice (k .on c));
     }
-kept-turned F x y d step k e =
+kept-turned F f d step k e =
     let h = allowed F step (d .level) (d .q) e .0 in
     let s = stride-below F (d .level) (k .below) (k .levels) in
     record {
       below = k .below;
       levels = k .levels;
-      on-x = rw s (step-on (2 ^ (16 - F)) (2 ^ F) x (d .level) (k .below) (d .q) (d .x) (k .on-x) h);
-      on-y = rw s (step-on (2 ^ (16 - F)) (2 ^ F) y (d .level) (k .below) (d .q) (d .y) (k .on-y) h);
+      on = λ c. at-turned F step d (f c) _ _ _ c (rw s (step-on (2 ^ (16 - F)) (2 ^ F) (f c) (d .level) (k .below) (d .q) (of c d) (k .on c) h));
     }
-
--- ---- 32 bits
-
--- a curve whose registers fit wherever the invariant holds
-unfoldable pub Bounded : ℕ → Curve → Type 0
-Bounded F f = (n j q : ℕ) (r : Registers) → At F f n j q r → areRegisters r ≡ true
-
-size-register : (z : ℤ) (m : ℕ) → m ≤ 2147483647 → Size z m → isRegister z ≡ true
-size-register (pos n) m h s = le-leb n 2147483647 (le-trans (s .le) h)
-size-register (negsuc n) m h s = rw (le-leb n 2147483647 (omega (arith, s .le))) refl
-
-pub lawful-bounded : (F : ℕ) (p : Control) → F ≤ 12 → Lawful p → Bounded F (curve p)
-unfolding Bounded areRegisters
-lawful-bounded F p h l n j q r o =
-    let most : 2 ^ F ≤ 4096 = pow-mono {j = 12} h in
-    let s = sizes F reach 16384 p (omega arith) (reaches p (l .near)) (extent p (l .coordinates)) n j q r o in
-    let a = size-register (r .a) (65536 * (24 * 682)) (lit≤ tt) (s .a) in
-    let b = size-register (r .b) (65536 * (36 * 682)) (lit≤ tt) (s .b) in
-    let c = size-register (r .c) (65536 * (31 * 682) + 2 * 2 ^ F) (omega arith) (s .c) in
-    let d = size-register (r .d) (65536 * 16384 + 2 * 2 ^ F) (omega arith) (s .d) in
-    λ i. a i && b i && c i && d i
 
 -- ---- every call
 
-module _ (F : ℕ) (x y : Curve) (fx : Bounded F x) (fy : Bounded F y) where
-  pub kept-fits : (d : Drawing) → Kept F x y d → (areRegisters (d .x) ≡ true) × (areRegisters (d .y) ≡ true)
+module _ (F : ℕ) (f : Coordinate → Curve) (fits : (c : Coordinate) → Bounded F (f c)) where
+  pub kept-fits : (d : Drawing) → Kept F f d → (c : Coordinate) → areRegisters (of c d) ≡ true
   unfolding Bounded
-  kept-fits d k = (fx (d .level) (k .below) (d .q) (d .x) (k .on-x), fy (d .level) (k .below) (d .q) (d .y) (k .on-y))
+  kept-fits d k c = fits c (d .level) (k .below) (d .q) (of c d) (k .on c)
 
-  answers : (k : ℕ) (old new : Drawing) → (k ≡ 0 → Kept F x y new) → answered k old new ≡ settled k old new
-  unfolding landed
-  answers zero old new h =
-      let f = kept-fits new (h refl) in
-      ap₂ (λ (u v : Bool). cond (u && v) (record { refusal = 0; drawing = new }) (refused 10 old)) (f .0) (f .1)
-  answers (suc k) old new h = refl
+  registers-kept : (d : Drawing) → Kept F f d → registersRefusal d ≡ 0
+  unfolding registersRefusal
+  registers-kept d k = ap (λ (b : Bool). unless b 10 0) (true-every (λ c. areRegisters (of c d)) (kept-fits d k))
 
-  pub call-settled : (d : Drawing) (op : Operation) → Kept F x y d → called F op d ≡ settled (ruled F op (d .level) (d .q)) d (turned F op d)
+  -- registers are never what refuses
+  call-ruled : (k : ℕ) (new : Drawing) → (k ≡ 0 → Kept F f new) → firstOf k (registersRefusal new) ≡ k
+  call-ruled zero new h = registers-kept new (h refl)
+  call-ruled (suc k) new h = refl
+
+  pub call-settled : (d : Drawing) (op : Operation) → Kept F f d → called F op d ≡ moved (ruled F op (d .level) (d .q)) d (turned F op d)
   unfolding called
   call-settled d op k =
-      ap (λ (m : ℕ). answered m d (turned F op d)) (kept-ruled F x y d op k)
-      ∙ answers (ruled F op (d .level) (d .q)) d (turned F op d) (kept-turned F x y d op k)
+      ap (λ (m : ℕ). moved m d (turned F op d))
+      (ap (λ (m : ℕ). firstOf m (registersRefusal (turned F op d))) (kept-ruled F f d op k)
+      ∙ call-ruled (ruled F op (d .level) (d .q)) (turned F op d) (kept-turned F f d op k))

@@ -1,8 +1,5 @@
--- Demand 3, from the engine's one-turn laws up.
-pub mod Near
-pub mod Sizes
+-- Demand 3 from the invariant of each coordinate, and what paths cite.
 pub mod Kept
-pub mod Ends
 pub mod Calls
 pub mod Back
 pub mod Choice
