@@ -3,7 +3,7 @@ use mathlib.Core.Path.{_≡_}
 use mathlib.Core.Bool.{cond}
 use mathlib.Core.List.{List, [], _∷_, _++_}
 use mathlib.Core.Option.{Option, none, some}
-use Prim.Native.Nat.{ℕ, _+_, _*_, _/_}
+use Prim.Native.Nat.{ℕ, zero, suc, _+_, _*_, _/_}
 use lib.Dec.{ltb}
 use lib.IntN.{ℤ, pos}
 use lib.ListN.{length, getD}
@@ -23,23 +23,31 @@ unfoldable pub flat : List Entry → List ℤ
 flat [] = []
 flat (e ∷ es) = numbers e ++ flat es
 
--- entry i of a list of numbers, where the list reaches that far
+-- ---- read back
+
+-- entry i of a list of numbers
+abbrev pub entryOf : List ℤ → ℕ → Entry
+entryOf l i =
+    record {
+      position = getD l (entrySize * i) (pos 0);
+      x = getD l (entrySize * i + 1) (pos 0);
+      y = getD l (entrySize * i + 2) (pos 0);
+    }
+
+-- where the list reaches that far
 unfoldable pub entryAt : List ℤ → ℕ → Option Entry
-entryAt l i =
-    let at : ℕ = entrySize * i in
-    cond (ltb i (length l / entrySize))
-    (some (record { position = getD l at (pos 0); x = getD l (at + 1) (pos 0); y = getD l (at + 2) (pos 0) }))
-    none
+entryAt l i = cond (ltb i (length l / entrySize)) (some (entryOf l i)) none
 
 abbrev pub found : Found → Option Entry
 found (Here e) = some e
 found Outside = none
 
--- ---- what holds all along a list
+-- n entries, from entry i on
+unfoldable pub entriesIn : List ℤ → ℕ → ℕ → List Entry
+entriesIn l i zero = []
+entriesIn l i (suc n) = entryOf l i ∷ entriesIn l (i + 1) n
 
-abbrev pub Each : (Entry → Type 0) → List Entry → Type 0
-Each P [] = Unit
-Each P (e ∷ es) = P e × Each P es
+-- ---- what holds all along a list
 
 -- e is one of them
 pub record Among (e : Entry) (es : List Entry) : Type 0 where

@@ -5,6 +5,9 @@ ghost use lib.Seq.{sets};
 ghost use Rattle.entries.specs.Entries.{numbers, entryAt, found};
 ghost use Rattle.entries.specs.Length.{moveLength};
 
+// The numbers of an entry.
+pub const ENTRY_SIZE: usize = 3;
+
 // An entry: its position on the path, and its pixel.
 pub struct Entry {
     pub position: i32,
@@ -45,10 +48,10 @@ fn store(list: &mut [i32], at: usize, v: i32)
 pub fn entry_at(list: &[i32], i: usize) -> Found
     ensures { λ r. ⌜ found r ≡ entryAt (now (list .entry)) i ⌝ }
 {
-    if i >= list.len() / 3 {
+    if i >= list.len() / ENTRY_SIZE {
         return Found::Outside;
     }
-    let at = 3 * i;
+    let at = ENTRY_SIZE * i;
     Found::Here(Entry {
         position: list[at],
         x: list[at + 1],

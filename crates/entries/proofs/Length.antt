@@ -1,0 +1,62 @@
+-- Lengths: a move is the distance between pixels that touch, cut to a whole number of thousandths, and at most 1,414.
+use mathlib.Core.Path.{_≡_, refl, sym, ap, _∙_}
+use mathlib.Core.Bool.{Bool, true, false, cond}
+use mathlib.Core.List.{List, [], _∷_}
+use Prim.Native.Nat.{ℕ, zero, suc, _+_, _*_, _≤_, _<_}
+use native.Mathlib.Nat.{le-of-eq}
+use native.Mathlib.Omega.{arith}
+use lib.Dec.{eqb, lit≤, eqb·suc-zero}
+use lib.IntN.{ℤ, pos, natAbs, _-ℤ_}
+use lib.ListN.{length}
+use Rattle.numbers.specs.Tests.{eqbℤ}
+use Rattle.numbers.proofs.Parts.{no-difference}
+use Rattle.numbers.proofs.Ring.{#, _:-_, ring}
+use Rattle.numbers.proofs.Size.{size-zero}
+use Rattle.numbers.proofs.Tests.{eq→eqbℤ, ne→eqbℤ}
+use Rattle.entries.specs.declared.Entry.{Entry}
+use Rattle.entries.specs.Length.{moveLength, lengthFrom}
+
+pub move-most : (e f : Entry) → moveLength e f ≤ 1414
+unfolding moveLength
+move-most e f = at-most (eqbℤ (e .x) (f .x)) (eqbℤ (e .y) (f .y))
+  where
+    at-most : (x y : Bool) → cond x (cond y 0 1000) (cond y 1000 1414) ≤ 1414
+    at-most true true = omega arith
+    at-most true false = omega arith
+    at-most false true = omega arith
+    at-most false false = omega arith
+
+-- between pixels that touch, a move is the distance in thousandths of a pixel, cut to a whole number
+same-by-distance : (u v : ℤ) (n : ℕ) → natAbs (v -ℤ u) ≡ n → eqbℤ u v ≡ eqb n 0
+same-by-distance u v zero e = eq→eqbℤ u v (sym (no-difference v u (size-zero (record { le = le-of-eq e }))))
+same-by-distance u v (suc n) e = ne→eqbℤ u v (λ f. not-zero (sym e ∙ ap (λ (z : ℤ). natAbs (v -ℤ z)) f ∙ ap natAbs itself)) ∙ sym (eqb·suc-zero n)
+  where
+    itself : v -ℤ v ≡ pos 0
+    itself = ring 1 (λ z. (z :- z, # 0)) tt v
+
+    not-zero : {n : ℕ} → suc n ≡ 0 → ⊥
+    not-zero e = omega arith
+
+pub record IsDistance (m dx dy : ℕ) : Type 0 where
+  pub least : m * m ≤ 1000000 * (dx * dx + dy * dy)
+  pub most : 1000000 * (dx * dx + dy * dy) < (m + 1) * (m + 1)
+
+pub move-is-distance : (e f : Entry) → natAbs (f .x -ℤ e .x) ≤ 1 → natAbs (f .y -ℤ e .y) ≤ 1
+    → IsDistance (moveLength e f) (natAbs (f .x -ℤ e .x)) (natAbs (f .y -ℤ e .y))
+unfolding moveLength
+move-is-distance e f h k =
+    rw (same-by-distance (e .x) (f .x) _ refl, same-by-distance (e .y) (f .y) _ refl) (squares _ _ h k)
+  where
+    squares : (a b : ℕ) → a ≤ 1 → b ≤ 1 → IsDistance (cond (eqb a 0) (cond (eqb b 0) 0 1000) (cond (eqb b 0) 1000 1414)) a b
+    squares zero zero h k = record { least = lit≤ tt; most = lit≤ tt }
+    squares zero (suc zero) h k = record { least = lit≤ tt; most = lit≤ tt }
+    squares (suc zero) zero h k = record { least = lit≤ tt; most = lit≤ tt }
+    squares (suc zero) (suc zero) h k = record { least = lit≤ tt; most = lit≤ tt }
+    squares zero (suc (suc b)) h k = let no : ⊥ = omega arith in absurd no
+    squares (suc zero) (suc (suc b)) h k = let no : ⊥ = omega arith in absurd no
+    squares (suc (suc a)) b h k = let no : ⊥ = omega arith in absurd no
+
+pub length-most : (e : Entry) (es : List Entry) → lengthFrom e es ≤ 1414 * length es
+unfolding lengthFrom
+length-most e [] = omega arith
+length-most e (f ∷ es) = omega (arith, move-most e f, length-most f es)
