@@ -8,105 +8,119 @@ use lib.Dec.{leb}
 use lib.IntN.{ℤ}
 use lib.ListN.{length, drop}
 use borrow.Author.Tests.{leb-true}
-use Rattle.rules.specs.Rules.{unless, filled, Among, isLevel, areLimits, standardUpper, standardLower, isSize, arePoints, areChained}
-use Rattle.rules.proofs.Laws.{rule-kept, line-among, among}
-use Rattle.entries.specs.declared.Entry.{Entry}
+use Rattle.rules.specs.Refusals.{unless, firstOf, refusalOr, filled, Among}
+use Rattle.rules.specs.Rules.{reach, isLevel, areLimits, standardUpper, standardLower, isSize, arePoints, areChained, pointsRefusal}
+use Rattle.rules.proofs.Refusals.{rule-kept, line-among, among, first-kept, first-among, number-answered, refused-answers}
 use Rattle.entries.specs.Entries.{entrySize, flat}
 use Rattle.entries.specs.Length.{lengthOf}
+use Rattle.path.specs.declared.Drawn.{Drawn}
 use Rattle.path.specs.Path.{Path, path, pathRefusal}
 use Rattle.path.specs.Entries.{entries}
-use Rattle.path.specs.Answer.{measureRefusal, drawRefusal, measureTable, drawTable, standardMeasureTable, standardDrawTable, answered, measured, drawn, written}
-use Rattle.path.proofs.Answers.{answered-refusal, path-kept, path-alike}
+use Rattle.path.specs.Answer.{drawRefusal, measureTable, drawTable, standardMeasureTable, standardDrawTable, refusedBy, answer, measured, drawn, written}
+
+-- ---- the numbers that are answered
+
+pub measured-refusal : (F : ℕ) (p : Path) → measured F p .refusal ≡ pathRefusal F p
+unfolding measured
+measured-refusal F p = number-answered refusedBy (answer (entries F p)) (λ (d : Drawn). d .refusal) (λ k. refl) refl (pathRefusal F p)
+
+pub drawn-refusal : (F : ℕ) (p : Path) (room : ℕ) → drawn F p room .refusal ≡ drawRefusal F p room
+unfolding drawn
+drawn-refusal F p room = number-answered refusedBy (answer (entries F p)) (λ (d : Drawn). d .refusal) (λ k. refl) refl (drawRefusal F p room)
 
 -- ---- the tables
 
 -- 14, 1, 2 and 3 are in each of them
-path-among : (F : ℕ) (p : Path) (rest : ℕ) {table : List ℕ} → Among 14 table → Among 1 table → Among 2 table → Among 3 table
-    → Among (unless (areLimits (p .upper) (p .lower)) 4 rest) table → Among (pathRefusal F p rest) table
-unfolding pathRefusal
-path-among F p rest size points chained level limits =
+path-among : (F : ℕ) (p : Path) {table : List ℕ} → Among 14 table → Among 1 table → Among 2 table → Among 3 table → Among 0 table
+    → Among (unless (areLimits (p .upper) (p .lower)) 4 0) table → Among (pathRefusal F p) table
+unfolding pathRefusal pointsRefusal
+path-among F p size points chained level none limits =
     line-among (isSize (p .segments) (length (p .points))) size
-    (line-among (arePoints (p .points)) points
-    (line-among (areChained (p .points)) chained (line-among (isLevel F (p .level)) level limits)))
+    (first-among (pointsRefusal reach (p .points)) _
+    (line-among (arePoints (p .points)) points (line-among (areChained reach (p .points)) chained none))
+    (line-among (isLevel F (p .level)) level limits))
+
+-- and then 9
+room-among : (F : ℕ) (p : Path) (room : ℕ) {table : List ℕ} → Among (pathRefusal F p) table → Among 9 table → Among 0 table → Among (drawRefusal F p room) table
+unfolding drawRefusal
+room-among F p room h nine none =
+    first-among (pathRefusal F p) _ h (line-among (leb (entrySize * length (entries F p)) room) nine none)
 
 pub measure-refuses-as-tabled : (F : ℕ) (p : Path) → Among (measured F p .refusal) measureTable
-unfolding measured measureRefusal
 measure-refuses-as-tabled F p =
-    rw answered-refusal
-    (path-among F p 0 (among tt) (among tt) (among tt) (among tt) (line-among (areLimits (p .upper) (p .lower)) (among tt) (among tt)))
+    rw measured-refusal
+    (path-among F p (among tt) (among tt) (among tt) (among tt) (among tt) (line-among (areLimits (p .upper) (p .lower)) (among tt) (among tt)))
 
 pub draw-refuses-as-tabled : (F : ℕ) (p : Path) (room : ℕ) → Among (drawn F p room .refusal) drawTable
-unfolding drawn drawRefusal
 draw-refuses-as-tabled F p room =
-    rw answered-refusal
-    (path-among F p _ (among tt) (among tt) (among tt) (among tt)
-    (line-among (areLimits (p .upper) (p .lower)) (among tt) (line-among (leb (entrySize * length (entries F p)) room) (among tt) (among tt))))
+    rw drawn-refusal
+    (room-among F p room
+    (path-among F p (among tt) (among tt) (among tt) (among tt) (among tt) (line-among (areLimits (p .upper) (p .lower)) (among tt) (among tt)))
+    (among tt) (among tt))
 
 -- under the standard limits without 4
 module _ (F : ℕ) (points : List ℤ) (segments level : ℕ) where
   pub standard-measure-refuses-as-tabled : Among (measured F (path points segments level standardUpper standardLower) .refusal) standardMeasureTable
-  unfolding measured measureRefusal areLimits
-  standard-measure-refuses-as-tabled = rw answered-refusal (path-among F _ 0 (among tt) (among tt) (among tt) (among tt) (among tt))
+  unfolding areLimits
+  standard-measure-refuses-as-tabled = rw measured-refusal (path-among F _ (among tt) (among tt) (among tt) (among tt) (among tt) (among tt))
 
   pub standard-draw-refuses-as-tabled : (room : ℕ)
       → Among (drawn F (path points segments level standardUpper standardLower) room .refusal) standardDrawTable
-  unfolding drawn drawRefusal areLimits
+  unfolding areLimits
   standard-draw-refuses-as-tabled room =
-      let p = path points segments level standardUpper standardLower in
-      rw answered-refusal
-      (path-among F p _ (among tt) (among tt) (among tt) (among tt)
-      (line-among (leb (entrySize * length (entries F p)) room) (among tt) (among tt)))
+      rw drawn-refusal
+      (room-among F _ room (path-among F _ (among tt) (among tt) (among tt) (among tt) (among tt) (among tt)) (among tt) (among tt))
 
 -- ---- a refusal
 
-answered-zeros : (k : ℕ) (es : List Entry) → (answered k es .refusal ≡ 0 → ⊥) → answered k es ≡ record { refusal = answered k es .refusal; points = 0; length = 0 }
-answered-zeros zero es h = absurd (h refl)
-answered-zeros (suc k) es h = refl
+answers-zeros : (k : ℕ) (a : Drawn) → a .refusal ≡ 0 → (refusalOr k refusedBy a .refusal ≡ 0 → ⊥)
+    → refusalOr k refusedBy a ≡ record { refusal = refusalOr k refusedBy a .refusal; points = 0; length = 0 }
+answers-zeros k a e h =
+    refused-answers refusedBy a (λ (d : Drawn). d .refusal) (λ k. refl) e k h
+    ∙ ap refusedBy (sym (number-answered refusedBy a (λ (d : Drawn). d .refusal) (λ k. refl) e k))
 
 pub refused-measure-answers-zeros : (F : ℕ) (p : Path) → (measured F p .refusal ≡ 0 → ⊥) → measured F p ≡ record { refusal = measured F p .refusal; points = 0; length = 0 }
 unfolding measured
-refused-measure-answers-zeros F p = answered-zeros (measureRefusal F p) (entries F p)
+refused-measure-answers-zeros F p = answers-zeros (pathRefusal F p) (answer (entries F p)) refl
 
 pub refused-draw-answers-zeros : (F : ℕ) (p : Path) (room : ℕ) → (drawn F p room .refusal ≡ 0 → ⊥)
     → drawn F p room ≡ record { refusal = drawn F p room .refusal; points = 0; length = 0 }
 unfolding drawn
-refused-draw-answers-zeros F p room = answered-zeros (drawRefusal F p room) (entries F p)
+refused-draw-answers-zeros F p room = answers-zeros (drawRefusal F p room) (answer (entries F p)) refl
 
 pub refused-draw-changes-nothing : (F : ℕ) (p : Path) (list : List ℤ) → (drawn F p (length list) .refusal ≡ 0 → ⊥) → written F p list ≡ list
-unfolding drawn written
-refused-draw-changes-nothing F p list = by-number (drawRefusal F p (length list)) (entries F p)
+unfolding written
+refused-draw-changes-nothing F p list h = by-number (drawRefusal F p (length list)) (λ e. h (drawn-refusal F p (length list) ∙ e))
   where
-    by-number : (k : ℕ) (es : List Entry) → (answered k es .refusal ≡ 0 → ⊥) → filled k (flat es) list ≡ list
-    by-number zero es h = absurd (h refl)
-    by-number (suc k) es h = refl
+    by-number : (k : ℕ) → (k ≡ 0 → ⊥) → filled k (flat (entries F p)) list ≡ list
+    by-number zero h = absurd (h refl)
+    by-number (suc k) h = refl
 
 -- ---- the list
 
 module _ (F : ℕ) (p : Path) (room : ℕ) where
-  draw-refusal : drawn F p room .refusal ≡ drawRefusal F p room
-  unfolding drawn
-  draw-refusal = answered-refusal (drawRefusal F p room) (entries F p)
-
   pub drawn-fits : drawn F p room .refusal ≡ 0 → entrySize * length (entries F p) ≤ room
   unfolding drawRefusal
   drawn-fits e =
       let size = entrySize * length (entries F p) in
-      leb-true size room (rule-kept (leb size room) 8 0 (path-kept F p _ (sym draw-refusal ∙ e)) .0)
+      leb-true size room (rule-kept (leb size room) 8 0 (first-kept (pathRefusal F p) _ (sym (drawn-refusal F p room) ∙ e) .1) .0)
 
   pub drawn-answer : drawn F p room .refusal ≡ 0
       → drawn F p room ≡ record { refusal = 0; points = length (entries F p); length = lengthOf (entries F p) }
   unfolding drawn
-  drawn-answer e = ap (λ (k : ℕ). answered k (entries F p)) (sym draw-refusal ∙ e)
+  drawn-answer e = ap (λ (k : ℕ). refusalOr k refusedBy (answer (entries F p))) (sym (drawn-refusal F p room) ∙ e)
 
   -- measuring refuses as drawing does but for 9, and answers the same two numbers
   pub measure-as-draw-but-for-room : (drawn F p room .refusal ≡ 9 → ⊥) → measured F p ≡ drawn F p room
-  unfolding measured measureRefusal drawn drawRefusal
+  unfolding measured drawn drawRefusal
   measure-as-draw-but-for-room h =
-      ap (λ (k : ℕ). answered k (entries F p)) (by-room (leb (entrySize * length (entries F p)) room) (λ e. h (draw-refusal ∙ e)))
+      ap (λ (k : ℕ). refusalOr k refusedBy (answer (entries F p)))
+      (by-room (pathRefusal F p) (leb (entrySize * length (entries F p)) room) (λ e. h (drawn-refusal F p room ∙ e)))
     where
-      by-room : (fits : Bool) → (pathRefusal F p (unless fits 9 0) ≡ 9 → ⊥) → pathRefusal F p 0 ≡ pathRefusal F p (unless fits 9 0)
-      by-room true h = refl
-      by-room false h = path-alike F p 9 h
+      by-room : (k : ℕ) (fits : Bool) → (firstOf k (unless fits 9 0) ≡ 9 → ⊥) → k ≡ firstOf k (unless fits 9 0)
+      by-room zero true h = refl
+      by-room zero false h = absurd (h refl)
+      by-room (suc k) fits h = refl
 
   pub measure-as-draw : drawn F p room .refusal ≡ 0 → measured F p ≡ drawn F p room
   measure-as-draw e = measure-as-draw-but-for-room (λ n. omega arith)
@@ -114,4 +128,4 @@ module _ (F : ℕ) (p : Path) (room : ℕ) where
 pub drawn-list : (F : ℕ) (p : Path) (list : List ℤ) → drawn F p (length list) .refusal ≡ 0
     → written F p list ≡ flat (entries F p) ++ drop (length (flat (entries F p))) list
 unfolding written
-drawn-list F p list e = ap (λ (k : ℕ). filled k (flat (entries F p)) list) (sym (draw-refusal F p (length list)) ∙ e)
+drawn-list F p list e = ap (λ (k : ℕ). filled k (flat (entries F p)) list) (sym (drawn-refusal F p (length list)) ∙ e)

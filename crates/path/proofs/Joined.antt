@@ -8,15 +8,14 @@ use native.Mathlib.Omega.{arith}
 use lib.IntN.{pos}
 use lib.ListN.{length, getD, drop, length-drop}
 use lib.Seq.{length-take-le, getD-take, getD-drop}
-use Rattle.rules.specs.Rules.{isCoordinate, areNeighbours, degree, coordinates, isSegments, isSize, arePoints, areChained}
+use Rattle.rules.specs.Rules.{reach, isCoordinate, areNeighbours, degree, coordinates, isSegments, isSize, arePoints, areChained}
 use Rattle.rules.proofs.Every.{points-hold, hold-points, chained-hold, hold-chained}
 use Rattle.engine.specs.declared.Drawing.{Drawing}
-use Rattle.engine.specs.Registers.{Operation, halve, double, step}
-use Rattle.path.specs.Path.{Path, pointAt, control, first}
+use Rattle.coordinate.specs.Registers.{Operation, halve, double, step}
+use Rattle.path.specs.Path.{Path, pathRefusal, pointAt, control, first}
 use Rattle.path.specs.Segment.{Turn, turns}
 use Rattle.path.specs.Entries.{entry, shown, shownBy, rest, following, entries}
 use Rattle.path.specs.Joined.{alone, shifted, placed, joins}
-use Rattle.path.specs.Answer.{measureRefusal}
 use Rattle.path.proofs.Accepted.{passed, all-passed, sized}
 
 -- ---- the numbers of a segment
@@ -99,18 +98,18 @@ module _ (p : Path) (k : ℕ) (l : coordinates * (degree * k) + coordinates * (d
           let short : i < coordinates * (degree + 1) = rw length-alone at h in
           rw (number-alone p k i short) (points-hold (p .points) e _ (omega arith))
 
-  chained-alone : areChained (p .points) ≡ true → areChained (alone p k .points) ≡ true
-  chained-alone e = hold-chained (alone p k .points) each
+  chained-alone : areChained reach (p .points) ≡ true → areChained reach (alone p k .points) ≡ true
+  chained-alone e = hold-chained reach (alone p k .points) each
     where
       each : (i : ℕ) → coordinates + i < length (alone p k .points)
-          → areNeighbours (getD (alone p k .points) i (pos 0)) (getD (alone p k .points) (coordinates + i) (pos 0)) ≡ true
+          → areNeighbours reach (getD (alone p k .points) i (pos 0)) (getD (alone p k .points) (coordinates + i) (pos 0)) ≡ true
       each i h =
           let n : ℕ = coordinates * (degree * k) in
           let short : coordinates + i < coordinates * (degree + 1) = rw length-alone at h in
           let further : n + (coordinates + i) ≡ coordinates + (n + i) = omega arith in
-          rw (number-alone p k i (omega arith), number-alone p k (coordinates + i) short, further) (chained-hold (p .points) e (n + i) (omega arith))
+          rw (number-alone p k i (omega arith), number-alone p k (coordinates + i) short, further) (chained-hold reach (p .points) e (n + i) (omega arith))
 
-pub alone-accepted : (F : ℕ) (p : Path) (k : ℕ) → measureRefusal F p ≡ 0 → k < p .segments → measureRefusal F (alone p k) ≡ 0
+pub alone-accepted : (F : ℕ) (p : Path) (k : ℕ) → pathRefusal F p ≡ 0 → k < p .segments → pathRefusal F (alone p k) ≡ 0
 unfolding alone isSize isSegments
 alone-accepted F p k e h =
     let t = passed F p e in

@@ -1,11 +1,9 @@
 -- Laws of paths and their lists.
 pub mod Accepted
-pub mod Answers
 pub mod Refusals
 pub mod Demand1
 pub mod Segments
 pub mod Turns
-pub mod Drawer
 pub mod Joined
 pub mod Walk
 pub mod Spans

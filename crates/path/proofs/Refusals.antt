@@ -5,28 +5,29 @@ use Prim.Native.Nat.{ℕ, _+_, _*_, _≤_, _<_}
 use lib.IntN.{pos}
 use lib.ListN.{length, getD}
 use borrow.Author.Tests.{le-leb, lt-leb}
-use Rattle.rules.specs.Rules.{unless, isCoordinate, areNeighbours, isLevel, areLimits, coordinates, isSize, arePoints, areChained}
+use Rattle.rules.specs.Refusals.{unless}
+use Rattle.rules.specs.Rules.{reach, isCoordinate, areNeighbours, isLevel, areLimits, coordinates, isSize, arePoints, areChained, pointsRefusal}
+use Rattle.rules.proofs.Refusals.{first-on}
 use Rattle.rules.proofs.Every.{points-hold, chained-hold}
 use Rattle.entries.specs.Entries.{entrySize}
 use Rattle.path.specs.Path.{Path, pathRefusal}
 use Rattle.path.specs.Entries.{entries}
-use Rattle.path.specs.Answer.{measureRefusal, drawRefusal}
-use Rattle.path.proofs.Answers.{path-room}
+use Rattle.path.specs.Answer.{drawRefusal}
 
 -- a test that cannot be true
 broken : (b : Bool) → (b ≡ true → ⊥) → b ≡ false
 broken true h = absurd (h refl)
 broken false h = refl
 
-module _ (F : ℕ) (p : Path) (rest : ℕ) where
-  pub refuses-14 : isSize (p .segments) (length (p .points)) ≡ false → pathRefusal F p rest ≡ 14
+module _ (F : ℕ) (p : Path) where
+  pub refuses-14 : isSize (p .segments) (length (p .points)) ≡ false → pathRefusal F p ≡ 14
   unfolding pathRefusal
   refuses-14 e = rw e
 
   module _ (size : isSize (p .segments) (length (p .points)) ≡ true) where
     -- number i is no coordinate, whatever its neighbours are
-    pub refuses-1 : (i : ℕ) → i < length (p .points) → isCoordinate (getD (p .points) i (pos 0)) ≡ false → pathRefusal F p rest ≡ 1
-    unfolding pathRefusal
+    pub refuses-1 : (i : ℕ) → i < length (p .points) → isCoordinate (getD (p .points) i (pos 0)) ≡ false → pathRefusal F p ≡ 1
+    unfolding pathRefusal pointsRefusal
     refuses-1 i h e =
         let points = broken (arePoints (p .points)) (λ t. true≢false (sym (points-hold (p .points) t i h) ∙ e)) in
         rw (size, points)
@@ -34,26 +35,26 @@ module _ (F : ℕ) (p : Path) (rest : ℕ) where
     module _ (points : arePoints (p .points) ≡ true) where
       -- number i and the same coordinate of the next point are no neighbours
       pub refuses-2 : (i : ℕ) → coordinates + i < length (p .points)
-          → areNeighbours (getD (p .points) i (pos 0)) (getD (p .points) (coordinates + i) (pos 0)) ≡ false → pathRefusal F p rest ≡ 2
-      unfolding pathRefusal
+          → areNeighbours reach (getD (p .points) i (pos 0)) (getD (p .points) (coordinates + i) (pos 0)) ≡ false → pathRefusal F p ≡ 2
+      unfolding pathRefusal pointsRefusal
       refuses-2 i h e =
-          let chained = broken (areChained (p .points)) (λ t. true≢false (sym (chained-hold (p .points) t i h) ∙ e)) in
+          let chained = broken (areChained reach (p .points)) (λ t. true≢false (sym (chained-hold reach (p .points) t i h) ∙ e)) in
           rw (size, points, chained)
 
-      module _ (chained : areChained (p .points) ≡ true) where
-        pub refuses-3 : isLevel F (p .level) ≡ false → pathRefusal F p rest ≡ 3
-        unfolding pathRefusal
+      module _ (chained : areChained reach (p .points) ≡ true) where
+        pub refuses-3 : isLevel F (p .level) ≡ false → pathRefusal F p ≡ 3
+        unfolding pathRefusal pointsRefusal
         refuses-3 e = rw (size, points, chained, e)
 
-        pub refuses-4 : isLevel F (p .level) ≡ true → areLimits (p .upper) (p .lower) ≡ false → pathRefusal F p rest ≡ 4
-        unfolding pathRefusal
+        pub refuses-4 : isLevel F (p .level) ≡ true → areLimits (p .upper) (p .lower) ≡ false → pathRefusal F p ≡ 4
+        unfolding pathRefusal pointsRefusal
         refuses-4 l e = rw (size, points, chained, l, e)
 
-pub refuses-9 : (F : ℕ) (p : Path) (room : ℕ) → measureRefusal F p ≡ 0 → room < entrySize * length (entries F p) → drawRefusal F p room ≡ 9
-unfolding measureRefusal drawRefusal
-refuses-9 F p room e h = path-room F p _ e ∙ ap (λ (b : Bool). unless b 9 0) (lt-leb (entrySize * length (entries F p)) room h)
+pub refuses-9 : (F : ℕ) (p : Path) (room : ℕ) → pathRefusal F p ≡ 0 → room < entrySize * length (entries F p) → drawRefusal F p room ≡ 9
+unfolding drawRefusal
+refuses-9 F p room e h = first-on _ _ e ∙ ap (λ (b : Bool). unless b 9 0) (lt-leb (entrySize * length (entries F p)) room h)
 
 -- and where there is room it is drawn
-pub room-drawn : (F : ℕ) (p : Path) (room : ℕ) → measureRefusal F p ≡ 0 → entrySize * length (entries F p) ≤ room → drawRefusal F p room ≡ 0
-unfolding measureRefusal drawRefusal
-room-drawn F p room e h = path-room F p _ e ∙ ap (λ (b : Bool). unless b 9 0) (le-leb (entrySize * length (entries F p)) room h)
+pub room-drawn : (F : ℕ) (p : Path) (room : ℕ) → pathRefusal F p ≡ 0 → entrySize * length (entries F p) ≤ room → drawRefusal F p room ≡ 0
+unfolding drawRefusal
+room-drawn F p room e h = first-on _ _ e ∙ ap (λ (b : Bool). unless b 9 0) (le-leb (entrySize * length (entries F p)) room h)

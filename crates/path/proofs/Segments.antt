@@ -1,69 +1,69 @@
--- What is known of each segment of an accepted path, for any finest level up to 12.
+-- What is known of each segment of an accepted path, at any fine level.
 use mathlib.Core.Path.{_≡_, refl, ap, _∙_}
 use mathlib.Core.Bool.{true}
 use mathlib.Core.List.{List, [], _∷_, _++_}
-use Prim.Native.Nat.{ℕ, _^_, _≤_, _<_}
+use Prim.Native.Nat.{ℕ, _^_, _<_}
 use native.Mathlib.Omega.{arith}
 use Rattle.rules.specs.Rules.{areLimits}
+use Rattle.coordinate.specs.Registers.{Operation}
+use Rattle.coordinate.proofs.Sizes.{Tame}
+use Rattle.coordinate.proofs.Stands.{Bounded, bounded}
 use Rattle.engine.specs.declared.Drawing.{Drawing}
 use Rattle.engine.specs.declared.Moved.{Moved}
-use Rattle.engine.specs.Curve.{curve}
-use Rattle.engine.specs.Registers.{Operation}
+use Rattle.engine.specs.Coordinates.{Coordinate}
 use Rattle.engine.specs.Drawing.{isDrawing, called}
 use Rattle.engine.specs.Start.{started}
 use Rattle.engine.specs.Choice.{chosen}
-use Rattle.engine.proofs.Accepted.{Lawful, accepted, start-begins}
+use Rattle.engine.proofs.Accepted.{accepted, start-begins}
 use Rattle.distance.specs.Calls.{after}
-use Rattle.distance.proofs.Kept.{Kept, Bounded, lawful-bounded, kept-inside, kept-turned}
+use Rattle.distance.specs.Demand3.{Fine}
+use Rattle.distance.proofs.Kept.{Kept, kept-inside, kept-turned}
 use Rattle.distance.proofs.Calls.{first-kept, after-one}
 use Rattle.distance.proofs.Choice.{chosen-ruled, chosen-accepted}
-use Rattle.path.specs.Path.{Path, control, first}
+use Rattle.distance.proofs.Demand3.{start-tame}
+use Rattle.path.specs.Path.{Path, pathRefusal, controls, courses, first}
 use Rattle.path.specs.Segment.{next}
-use Rattle.path.specs.Answer.{measureRefusal}
 use Rattle.path.proofs.Accepted.{passed, segment-accepted}
 
 -- d is a drawing of segment k
 abbrev pub Of : ℕ → Path → ℕ → Drawing → Type 0
-Of F p k d = Kept F (curve (control (p .points) 0 k)) (curve (control (p .points) 1 k)) d
+Of F p k d = Kept F (λ c. courses (p .points) k c .curve) d
 
--- its points are lawful, so that its registers fit; choosing answers; and it starts as a drawing of it
+-- its courses are tame, so that its registers fit; choosing answers; and it starts as a drawing of it
 pub record Sound (F : ℕ) (p : Path) (k : ℕ) : Type 0 where
-  pub lawful-x : Lawful (control (p .points) 0 k)
-  pub lawful-y : Lawful (control (p .points) 1 k)
-  pub x : Bounded F (curve (control (p .points) 0 k))
-  pub y : Bounded F (curve (control (p .points) 1 k))
+  pub fine : Fine F
+  pub tame : (c : Coordinate) → Tame F (courses (p .points) k c)
   pub limits : areLimits (p .upper) (p .lower) ≡ true
   pub first : Of F p k (first (p .points) (p .level) k)
 
-pub sound : (F : ℕ) (p : Path) → F ≤ 12 → measureRefusal F p ≡ 0 → (k : ℕ) → k < p .segments → Sound F p k
+pub sound : (F : ℕ) (p : Path) → Fine F → pathRefusal F p ≡ 0 → (k : ℕ) → k < p .segments → Sound F p k
 unfolding first
-sound F p h e k l =
-    let x = control (p .points) 0 k in
-    let y = control (p .points) 1 k in
-    let a = accepted F x y (p .level) (segment-accepted F p e k l) in
+sound F p f e k l =
+    let a = accepted F (controls (p .points) k) (p .level) (segment-accepted F p e k l) in
     record {
-      lawful-x = a .x;
-      lawful-y = a .y;
-      x = lawful-bounded F x h (a .x);
-      y = lawful-bounded F y h (a .y);
+      fine = f;
+      tame = start-tame F (controls (p .points) k) (p .level) f a;
       limits = passed F p e .limits;
-      first = first-kept F x y (p .level) (omega arith) (a .level);
+      first = first-kept F (courses (p .points) k) (p .level) (omega (arith, f .most)) (a .level);
     }
 
 -- the first drawing of segment k is what the engine's start answers
-pub begun-first : (F : ℕ) (p : Path) → measureRefusal F p ≡ 0 → (k : ℕ) → k < p .segments
-    → started F (control (p .points) 0 k) (control (p .points) 1 k) (p .level) ≡ record { refusal = 0; drawing = first (p .points) (p .level) k }
+pub begun-first : (F : ℕ) (p : Path) → pathRefusal F p ≡ 0 → (k : ℕ) → k < p .segments
+    → started F (controls (p .points) k) (p .level) ≡ record { refusal = 0; drawing = first (p .points) (p .level) k }
 unfolding first
-begun-first F p e k l = start-begins F (control (p .points) 0 k) (control (p .points) 1 k) (p .level) (segment-accepted F p e k l)
+begun-first F p e k l = start-begins F (controls (p .points) k) (p .level) (segment-accepted F p e k l)
 
 -- ---- the drawings of a segment
 
 module _ (F : ℕ) (p : Path) (k : ℕ) where
+  pub fits : Sound F p k → (c : Coordinate) → Bounded F (courses (p .points) k c .curve)
+  fits s c = bounded F (courses (p .points) k c) (s .fine .most) (s .tame c)
+
   pub of-inside : (d : Drawing) → Of F p k d → isDrawing F (d .level) (d .q) ≡ true
-  of-inside d = kept-inside F _ _ d
+  of-inside d = kept-inside F _ d
 
   pub of-next : (d : Drawing) → Of F p k d → d .q < 2 ^ F → Of F p k (next F (p .upper) (p .lower) d)
-  of-next d on h = kept-turned F _ _ d (chosen F (p .upper) (p .lower) d) on (chosen-ruled F (p .upper) (p .lower) d h)
+  of-next d on h = kept-turned F _ d (chosen F (p .upper) (p .lower) d) on (chosen-ruled F (p .upper) (p .lower) d h)
 
   -- reached from the start by calls
   pub record Held (d : Drawing) : Type 0 where
@@ -83,5 +83,5 @@ module _ (F : ℕ) (p : Path) (k : ℕ) where
         reached =
             after-one F (t .calls) op (first (p .points) (p .level) k)
             ∙ ap (λ (e : Drawing). called F op e .drawing) (t .reached)
-            ∙ ap (λ (m : Moved). m .drawing) (chosen-accepted F _ _ d (t .on) (p .upper) (p .lower) (s .x) (s .y) h);
+            ∙ ap (λ (m : Moved). m .drawing) (chosen-accepted F _ d (t .on) (p .upper) (p .lower) (fits s) h);
       }

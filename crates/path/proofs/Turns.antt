@@ -7,14 +7,15 @@ use native.Mathlib.Nat.{le-refl, le-suc, le-of-lt, le-of-suc-le-suc, lt-of-lt-of
 use native.Mathlib.Omega.{arith}
 use lib.Dec.{ltb}
 use borrow.Author.Tests.{ltb-true, ltb-false, lt-ltb, le-ltb}
-use Rattle.rules.specs.Rules.{unless}
+use Rattle.rules.specs.Refusals.{unless}
 use Rattle.engine.specs.declared.Drawing.{Drawing}
-use Rattle.engine.specs.Drawing.{isDrawing, gated, callRefusal, turned}
+use Rattle.engine.specs.Drawing.{isDrawing, gate, ownRefusal, callRefusal, turned}
 use Rattle.engine.specs.Choice.{chosen, left}
 use Rattle.engine.proofs.Gates.{inside}
 use Rattle.engine.proofs.Stays.{stays}
 use Rattle.engine.proofs.Ends.{chosen-falls}
-use Rattle.distance.specs.Calls.{ruled}
+use Rattle.rules.proofs.Refusals.{first-on}
+use Rattle.distance.proofs.Kept.{allowed}
 use Rattle.distance.proofs.Choice.{chosen-ruled}
 use Rattle.path.specs.Segment.{Turn, turnAt, next, turnsIn, turns}
 
@@ -26,10 +27,11 @@ module _ (F upper lower : ℕ) where
   -- the chosen operation leads to a drawing again
   next-inside : (d : Drawing) → isDrawing F (d .level) (d .q) ≡ true → d .q < 2 ^ F
       → isDrawing F (next F upper lower d .level) (next F upper lower d .q) ≡ true
-  unfolding turned callRefusal gated ruled
+  unfolding turned callRefusal gate
   next-inside d i h =
       let op = chosen F upper lower d in
-      stays F op (d .level) (d .q) (ap (λ (b : Bool). unless b 10 (ruled F op (d .level) (d .q))) i ∙ chosen-ruled F upper lower d h)
+      let through : gate F (d .level) (d .q) ≡ 0 = λ k. unless (i k) 10 (unless (lt-ltb (d .q) (2 ^ F) h k) 5 0) in
+      stays F op (d .level) (d .q) (first-on _ (ownRefusal F op (d .level) (d .q)) through ∙ allowed F op (d .level) (d .q) (chosen-ruled F upper lower d h) .1)
 
   pub next-falls : (d : Drawing) → isDrawing F (d .level) (d .q) ≡ true → d .q < 2 ^ F → left F upper (next F upper lower d) < left F upper d
   next-falls d i h = chosen-falls F upper lower d (record { inside = inside F (d .level) (d .q) i; before-end = h })

@@ -5,10 +5,10 @@ use mathlib.Core.Bool.{false}
 use mathlib.Core.List.{List, [], _∷_, _++_}
 use Prim.Native.Nat.{ℕ, _^_, _<_}
 use Rattle.engine.specs.declared.Drawing.{Drawing}
-use Rattle.engine.specs.Registers.{Operation, halve, double, step, turn}
+use Rattle.coordinate.specs.Registers.{Operation, halve, double, step, turn}
 use Rattle.engine.specs.Drawing.{turned}
 use Rattle.engine.specs.Choice.{wantsHalve, chosen}
-use Rattle.engine.specs.Shown.{pixel}
+use Rattle.coordinate.specs.Shown.{pixel}
 use Rattle.engine.proofs.Ends.{by-choice}
 use Rattle.entries.specs.declared.Entry.{Entry}
 use Rattle.path.specs.Path.{Path}

@@ -1,10 +1,10 @@
 -- What drawing and measuring a path answer, and what drawing leaves in the lent list.
 use mathlib.Core.List.{List, [], _∷_}
-use Prim.Native.Nat.{ℕ, zero, suc, _*_}
+use Prim.Native.Nat.{ℕ, _*_}
 use lib.Dec.{leb}
 use lib.IntN.{ℤ}
 use lib.ListN.{length}
-use Rattle.rules.specs.Rules.{unless, filled}
+use Rattle.rules.specs.Refusals.{unless, firstOf, refusalOr, filled}
 use Rattle.entries.specs.declared.Entry.{Entry}
 use Rattle.entries.specs.Entries.{entrySize, flat}
 use Rattle.entries.specs.Length.{lengthOf}
@@ -12,13 +12,9 @@ use Rattle.path.specs.declared.Drawn.{Drawn}
 use Rattle.path.specs.Path.{Path, pathRefusal}
 use Rattle.path.specs.Entries.{entries}
 
--- measuring: 14, 1, 2, 3, 4
-unfoldable pub measureRefusal : ℕ → Path → ℕ
-measureRefusal F p = pathRefusal F p 0
-
--- drawing into a list of `room` numbers: also 9, where it is shorter than the whole answer
+-- measuring is refused as the path is; drawing into a list of `room` numbers also by 9, where it is shorter than the whole answer
 unfoldable pub drawRefusal : ℕ → Path → ℕ → ℕ
-drawRefusal F p room = pathRefusal F p (unless (leb (entrySize * length (entries F p)) room) 9 0)
+drawRefusal F p room = firstOf (pathRefusal F p) (unless (leb (entrySize * length (entries F p)) room) 9 0)
 
 -- the numbers by which a path may be refused, 0 for none; under the standard limits without 4
 abbrev pub measureTable : List ℕ
@@ -33,19 +29,18 @@ standardMeasureTable = 0 ∷ 1 ∷ 2 ∷ 3 ∷ 14 ∷ []
 abbrev pub standardDrawTable : List ℕ
 standardDrawTable = 0 ∷ 1 ∷ 2 ∷ 3 ∷ 9 ∷ 14 ∷ []
 
+-- the number of points and the length; a refusal answers its number, with 0 for both
 abbrev pub refusedBy : ℕ → Drawn
 refusedBy k = record { refusal = k; points = 0; length = 0 }
 
--- the number of points and the length; a refusal answers its number, with 0 for both
-abbrev pub answered : ℕ → List Entry → Drawn
-answered zero es = record { refusal = 0; points = length es; length = lengthOf es }
-answered (suc k) es = refusedBy (suc k)
+abbrev pub answer : List Entry → Drawn
+answer es = record { refusal = 0; points = length es; length = lengthOf es }
 
 unfoldable pub measured : ℕ → Path → Drawn
-measured F p = answered (measureRefusal F p) (entries F p)
+measured F p = refusalOr (pathRefusal F p) refusedBy (answer (entries F p))
 
 unfoldable pub drawn : ℕ → Path → ℕ → Drawn
-drawn F p room = answered (drawRefusal F p room) (entries F p)
+drawn F p room = refusalOr (drawRefusal F p room) refusedBy (answer (entries F p))
 
 -- the list afterwards
 unfoldable pub written : ℕ → Path → List ℤ → List ℤ

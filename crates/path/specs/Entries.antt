@@ -3,9 +3,9 @@ use mathlib.Core.List.{List, [], _∷_, _++_}
 use Prim.Native.Nat.{ℕ, zero, suc, _+_, _*_, _^_}
 use lib.IntN.{pos}
 use Rattle.engine.specs.declared.Drawing.{Drawing}
-use Rattle.engine.specs.Registers.{Operation, halve, double, step}
+use Rattle.coordinate.specs.Registers.{Operation, halve, double, step}
 use Rattle.engine.specs.Drawing.{turned}
-use Rattle.engine.specs.Shown.{pixel}
+use Rattle.coordinate.specs.Shown.{pixel}
 use Rattle.entries.specs.declared.Entry.{Entry}
 use Rattle.path.specs.Path.{Path, first}
 use Rattle.path.specs.Segment.{Turn, turns}

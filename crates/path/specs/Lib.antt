@@ -2,7 +2,6 @@ pub mod Path
 pub mod Segment
 pub mod Entries
 pub mod Answer
-pub mod Tally
 pub mod Lawful
 pub mod Joined
 pub mod Listed

@@ -3,9 +3,12 @@ use mathlib.Core.List.{List}
 use Prim.Native.Nat.{ℕ, _+_, _*_}
 use lib.IntN.{ℤ, pos}
 use lib.ListN.{length, getD}
-use Rattle.rules.specs.Rules.{unless, isLevel, areLimits, degree, coordinates, isSize, arePoints, areChained}
-use Rattle.engine.specs.declared.Control.{Control}
+use Rattle.rules.specs.Refusals.{unless, firstOf}
+use Rattle.rules.specs.Rules.{reach, isLevel, areLimits, degree, coordinates, isSize, pointsRefusal}
+use Rattle.coordinate.specs.declared.Control.{Control}
+use Rattle.coordinate.specs.Course.{Course, cubic}
 use Rattle.engine.specs.declared.Drawing.{Drawing}
+use Rattle.engine.specs.Coordinates.{Coordinate, in-x, in-y}
 use Rattle.engine.specs.Start.{firstDrawing}
 
 -- points: x0, y0, x1, y1, .., as on a sheet
@@ -20,18 +23,21 @@ abbrev pub path : List ℤ → ℕ → ℕ → ℕ → ℕ → Path
 path points segments level upper lower =
     record { points = points; segments = segments; level = level; upper = upper; lower = lower }
 
--- 14, 1 over the whole path, then 2, 3, 4, and then what comes after
-unfoldable pub pathRefusal : ℕ → Path → ℕ → ℕ
-pathRefusal F p rest =
+-- 14, then 1 and 2 over the whole path, then 3, 4
+unfoldable pub pathRefusal : ℕ → Path → ℕ
+pathRefusal F p =
     unless (isSize (p .segments) (length (p .points))) 14
-    (unless (arePoints (p .points)) 1
-    (unless (areChained (p .points)) 2
-    (unless (isLevel F (p .level)) 3
-    (unless (areLimits (p .upper) (p .lower)) 4 rest))))
+    (firstOf (pointsRefusal reach (p .points)) (unless (isLevel F (p .level)) 3 (unless (areLimits (p .upper) (p .lower)) 4 0)))
 
--- coordinate c of point i, 0 for x and 1 for y
+-- ---- its points
+
+-- number c of point i, and the number of each coordinate
 unfoldable pub pointAt : List ℤ → ℕ → ℕ → ℤ
 pointAt points c i = getD points (coordinates * i + c) (pos 0)
+
+abbrev pub place : Coordinate → ℕ
+place in-x = 0
+place in-y = 1
 
 -- segment k uses points 3k to 3k + 3
 unfoldable pub control : List ℤ → ℕ → ℕ → Control
@@ -43,6 +49,13 @@ control points c k =
       p3 = pointAt points c (degree * k + 3);
     }
 
+-- the control points of each coordinate, and its course
+abbrev pub controls : List ℤ → ℕ → Coordinate → Control
+controls points k c = control points (place c) k
+
+abbrev pub courses : List ℤ → ℕ → Coordinate → Course
+courses points k c = cubic (controls points k c)
+
 -- the start of segment k: every segment begins at the path's start level
 unfoldable pub first : List ℤ → ℕ → ℕ → Drawing
-first points level k = firstDrawing (control points 0 k) (control points 1 k) level
+first points level k = firstDrawing (courses points k) level

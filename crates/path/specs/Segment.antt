@@ -4,7 +4,7 @@ use mathlib.Core.List.{List, [], _∷_}
 use Prim.Native.Nat.{ℕ, zero, suc, _^_}
 use lib.Dec.{ltb}
 use Rattle.engine.specs.declared.Drawing.{Drawing}
-use Rattle.engine.specs.Registers.{Operation}
+use Rattle.coordinate.specs.Registers.{Operation}
 use Rattle.engine.specs.Drawing.{turned}
 use Rattle.engine.specs.Choice.{chosen, left}
 

@@ -7,7 +7,7 @@ use lib.ListN.{length}
 use lib.Seq.{length-sets}
 use borrow.Author.Needs.{needs}
 use Rattle.rules.specs.Rules.{finest, mostSegments}
-use Rattle.engine.specs.Registers.{halve, double, step}
+use Rattle.coordinate.specs.Registers.{halve, double, step}
 use Rattle.engine.specs.Choice.{said, left}
 use Rattle.path.specs.Path.{Path, path}
 use Rattle.path.specs.Tally.{planned}

@@ -15,7 +15,7 @@ use borrow.Author.Tests.{ltb-true, ltb-false}
 use Rattle.numbers.proofs.Buffers.{Ahead, here, then, stored, stored-all}
 use Rattle.engine.specs.declared.Drawing.{Drawing}
 use Rattle.engine.specs.declared.Moved.{Moved}
-use Rattle.engine.specs.Registers.{Operation, halve, double, step}
+use Rattle.coordinate.specs.Registers.{Operation, halve, double, step}
 use Rattle.engine.specs.Drawing.{newPosition, turned, called}
 use Rattle.engine.specs.Choice.{chosen, choiceRefusal, Said, says, replied, choice, left}
 use Rattle.engine.proofs.Answers.{choice-opens}

@@ -1,0 +1,262 @@
+// Point lists of paths: draw fills a lent list, measure answers the number of points and the length alone.
+ghost use mathlib.Core.Path.{_≡_};
+ghost use Prim.Native.Nat.{_+_, _*_, _^_, _≤_, _<_};
+ghost use lib.ListN.{length};
+ghost use lib.Seq.{sets};
+ghost use Rattle.rules.specs.Rules.{finest, standardUpper, standardLower, degree, coordinates, mostSegments};
+ghost use Rattle.entries.specs.Entries.{entrySize, numbers, flat};
+ghost use Rattle.path.specs.Path.{path, control, first};
+ghost use Rattle.path.specs.Entries.{entry, entries};
+ghost use Rattle.path.specs.Answer.{measureRefusal, refusedBy, measured, drawn, written};
+ghost use Rattle.path.specs.Tally.{planned, Ready, begun, added, Small, tally};
+use engine::Control;
+use engine::Drawing;
+use engine::Next;
+use entries::Entry;
+use rules::STANDARD_LOWER;
+use rules::STANDARD_UPPER;
+
+// The positions of one segment.
+const END: u32 = 2048;
+
+// The answer: the number of points and the length, or the refusal with 0 for both.
+pub struct Drawn {
+    pub refusal: u32,
+    pub points: u32,
+    pub length: u32,
+}
+
+// How a path is drawn, beside its points.
+struct Plan {
+    segments: u32,
+    level: u32,
+    upper: u32,
+    lower: u32,
+}
+
+// What was drawn so far.
+struct Tally {
+    points: u32,
+    length: u32,
+    last: Entry,
+}
+
+// Draws a path into the front of `list`, three numbers a point. Refuses 14, 1, 2, 3, 4, 9, with the list as it was.
+pub fn draw(
+    points: &[i32],
+    segments: u32,
+    level: u32,
+    upper: u32,
+    lower: u32,
+    list: &mut [i32],
+) -> Drawn
+    ensures { λ r. ⌜ r ≡ drawn finest (path (now (points .entry)) segments level upper lower) (length (now (list .entry))) ⌝ }
+    ensures { λ _. ⌜ now (list .exit) ≡ written finest (path (now (points .entry)) segments level upper lower) (now (list .entry)) ⌝ }
+{
+    let answer = measure(points, segments, level, upper, lower);
+    if answer.refusal != 0 {
+        return answer;
+    }
+    if list.len() < 3 * (answer.points as usize) {
+        return refuse(9);
+    }
+    let plan = Plan {
+        segments: segments,
+        level: level,
+        upper: upper,
+        lower: lower,
+    };
+    run(points, plan, list);
+    answer
+}
+
+// The number of points and the length, without a list. Refuses 14, 1, 2, 3, 4.
+pub fn measure(points: &[i32], segments: u32, level: u32, upper: u32, lower: u32) -> Drawn
+    ensures { λ r. ⌜ r ≡ measured finest (path (now (points .entry)) segments level upper lower) ⌝ }
+{
+    let plan = Plan {
+        segments: segments,
+        level: level,
+        upper: upper,
+        lower: lower,
+    };
+    let refusal = refusal_of(points, plan);
+    if refusal != 0 {
+        return refuse(refusal);
+    }
+    let mut none = [0i32; 0];
+    let t = run(points, plan, &mut none);
+    Drawn {
+        refusal: 0,
+        points: t.points,
+        length: t.length,
+    }
+}
+
+// The same under the standard limits. Refuses 14, 1, 2, 3, 9.
+pub fn draw_standard(points: &[i32], segments: u32, level: u32, list: &mut [i32]) -> Drawn
+    ensures { λ r. ⌜ r ≡ drawn finest (path (now (points .entry)) segments level standardUpper standardLower) (length (now (list .entry))) ⌝ }
+    ensures { λ _. ⌜ now (list .exit) ≡ written finest (path (now (points .entry)) segments level standardUpper standardLower) (now (list .entry)) ⌝ }
+{
+    draw(
+        points,
+        segments,
+        level,
+        STANDARD_UPPER,
+        STANDARD_LOWER,
+        list,
+    )
+}
+
+// The same under the standard limits. Refuses 14, 1, 2, 3.
+pub fn measure_standard(points: &[i32], segments: u32, level: u32) -> Drawn
+    ensures { λ r. ⌜ r ≡ measured finest (path (now (points .entry)) segments level standardUpper standardLower) ⌝ }
+{
+    measure(points, segments, level, STANDARD_UPPER, STANDARD_LOWER)
+}
+
+// ---- refusals
+
+fn refusal_of(points: &[i32], plan: Plan) -> u32
+    ensures { λ r. ⌜ r ≡ measureRefusal finest (planned (now (points .entry)) plan) ⌝ }
+{
+    let segments = plan.segments;
+    let level = plan.level;
+    let upper = plan.upper;
+    let lower = plan.lower;
+    if !rules::size(segments, points.len()) {
+        return 14;
+    }
+    if !rules::points(points) {
+        return 1;
+    }
+    if !rules::chained(points) {
+        return 2;
+    }
+    if !rules::level(level) {
+        return 3;
+    }
+    if !rules::limits(upper, lower) {
+        return 4;
+    }
+    0
+}
+
+fn refuse(refusal: u32) -> Drawn
+    ensures { λ r. ⌜ r ≡ refusedBy refusal ⌝ }
+{
+    Drawn {
+        refusal: refusal,
+        points: 0,
+        length: 0,
+    }
+}
+
+// ---- the drawer
+
+// Draws every segment of an accepted path: its entries go to the front of `list`, as far as it reaches.
+fn run(points: &[i32], plan: Plan, list: &mut [i32]) -> Tally
+    requires { ⌜ measureRefusal finest (planned (now points) plan) ≡ 0 ⌝ }
+    ensures { λ r. ⌜ r ≡ tally finest (planned (now (points .entry)) plan) ⌝ }
+    ensures { λ _. ⌜ now (list .exit) ≡ sets (now (list .entry)) 0 (flat (entries finest (planned (now (points .entry)) plan))) ⌝ }
+{
+    let segments = plan.segments;
+    let level = plan.level;
+    let upper = plan.upper;
+    let lower = plan.lower;
+    let mut t = begin(points, level, list);
+    let mut k: u32 = 0;
+    'segments: while k < segments {
+        let mut d = first_of(points, k, level);
+        'operations: loop {
+            let next = d.next(upper, lower);
+            match next {
+                Next::Halve => d = d.halve().drawing,
+                Next::Double => d = d.double().drawing,
+                Next::Step => {
+                    d = d.step().drawing;
+                    t = show(t, d, k, list);
+                }
+                Next::Refused(_) => break 'operations,
+            }
+        }
+        k += 1;
+    }
+    t
+}
+
+// The start, with its entry.
+fn begin(points: &[i32], level: u32, list: &mut [i32]) -> Tally
+    requires { ⌜ Ready (now points) level 0 ⌝ }
+    ensures { λ r. ⌜ r ≡ begun (entry finest 0 (first (now (points .entry)) level 0)) ⌝ }
+    ensures { λ _. ⌜ now (list .exit) ≡ sets (now (list .entry)) 0 (numbers (entry finest 0 (first (now (points .entry)) level 0))) ⌝ }
+{
+    let d = first_of(points, 0, level);
+    let start = entry_of(d, 0);
+    entries::put(list, 0, start);
+    Tally {
+        points: 1,
+        length: 0,
+        last: start,
+    }
+}
+
+// One point more, with its entry.
+fn show(t: Tally, d: Drawing, k: u32, list: &mut [i32]) -> Tally
+    requires { ⌜ Small t × (k < mostSegments) × (d .q ≤ 2 ^ finest) ⌝ }
+    ensures { λ r. ⌜ r ≡ added t (entry finest k d) ⌝ }
+    ensures { λ _. ⌜ now (list .exit) ≡ sets (now (list .entry)) (entrySize * t .points) (numbers (entry finest k d)) ⌝ }
+{
+    let e = entry_of(d, k);
+    entries::put(list, 3 * (t.points as usize), e);
+    add(t, e)
+}
+
+fn add(t: Tally, e: Entry) -> Tally
+    requires { ⌜ Small t ⌝ }
+    ensures { λ r. ⌜ r ≡ added t e ⌝ }
+{
+    let moved = entries::move_length(t.last, e);
+    Tally {
+        points: t.points + 1,
+        length: t.length + moved,
+        last: e,
+    }
+}
+
+fn entry_of(d: Drawing, k: u32) -> Entry
+    requires { ⌜ (k < mostSegments) × (d .q ≤ 2 ^ finest) ⌝ }
+    ensures { λ r. ⌜ r ≡ entry finest k d ⌝ }
+{
+    let position = END * k + d.q;
+    let shown = d.shown();
+    Entry {
+        position: position as i32,
+        x: shown.x,
+        y: shown.y,
+    }
+}
+
+// The drawing that segment k starts from.
+fn first_of(points: &[i32], k: u32, level: u32) -> Drawing
+    requires { ⌜ Ready (now points) level k ⌝ }
+    ensures { λ r. ⌜ r ≡ first (now (points .entry)) level k ⌝ }
+{
+    let x = control_of(points, 0, k);
+    let y = control_of(points, 1, k);
+    Drawing::start(x, y, level).drawing
+}
+
+// Coordinate c of segment k's points.
+fn control_of(points: &[i32], c: usize, k: u32) -> Control
+    requires { ⌜ (c < coordinates) × (k < mostSegments) × (coordinates * (degree * k + degree) + 1 < length (now points)) ⌝ }
+    ensures { λ r. ⌜ r ≡ control (now (points .entry)) c k ⌝ }
+{
+    let i = 6 * (k as usize) + c;
+    Control {
+        p0: points[i],
+        p1: points[i + 2],
+        p2: points[i + 4],
+        p3: points[i + 6],
+    }
+}
