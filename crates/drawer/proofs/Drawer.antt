@@ -13,23 +13,34 @@ use lib.Seq.{sets}
 use borrow.Author.Needs.{zero≤}
 use borrow.Author.Tests.{ltb-true, ltb-false}
 use Rattle.numbers.proofs.Buffers.{Ahead, here, then, stored, stored-all}
+use Rattle.rules.specs.Refusals.{refusalOr}
 use Rattle.engine.specs.declared.Drawing.{Drawing}
 use Rattle.engine.specs.declared.Moved.{Moved}
 use Rattle.coordinate.specs.Registers.{Operation, halve, double, step}
 use Rattle.engine.specs.Drawing.{newPosition, turned, called}
-use Rattle.engine.specs.Choice.{chosen, choiceRefusal, Said, says, replied, choice, left}
+use Rattle.engine.specs.Choice.{chosen, choiceRefusal, Said, says, refusedBy, choice, left}
+use Rattle.engine.specs.Coordinates.{in-x}
 use Rattle.engine.proofs.Answers.{choice-opens}
 use Rattle.distance.proofs.Choice.{choice-answers, chosen-accepted}
 use Rattle.entries.specs.declared.Entry.{Entry}
 use Rattle.entries.specs.Entries.{entrySize, numbers, flat}
-use Rattle.entries.proofs.Laws.{move-most}
-use Rattle.path.specs.declared.Tally.{Tally}
-use Rattle.path.specs.Path.{Path, first}
+use Rattle.entries.proofs.Length.{move-most}
+use Rattle.drawer.specs.declared.Tally.{Tally}
+use Rattle.rules.specs.Rules.{finest, degree}
+use Rattle.path.specs.Path.{Path, pathRefusal, first}
 use Rattle.path.specs.Segment.{next, turns}
 use Rattle.path.specs.Entries.{entry, shown, shownBy, rest, following, entries}
-use Rattle.path.specs.Tally.{begun, added, Small, addedAll, tally}
-use Rattle.path.proofs.Segments.{Of, Sound, of-inside, of-next}
+use Rattle.drawer.specs.Tally.{Ready, begun, added, Small, addedAll, tally}
+use Rattle.path.proofs.Accepted.{accepted-lawful, point-inside, segment-accepted}
+use Rattle.path.proofs.Segments.{Of, Sound, fits, of-inside, of-next}
 use Rattle.path.proofs.Turns.{by-test, next-falls, turns-end, turns-more}
+
+-- ---- the start of each segment
+
+pub segment-ready : (p : Path) → pathRefusal finest p ≡ 0 → (k : ℕ) → k < p .segments → Ready (p .points) (p .level) k
+segment-ready p e k h =
+    let l = accepted-lawful finest p e in
+    record { few = omega arith; inside = point-inside l 1 (degree * k + degree) (omega arith) (omega arith); accepted = segment-accepted finest p e k h }
 
 -- ---- what choosing answered
 
@@ -53,7 +64,7 @@ took F upper lower op d e = by-number (choiceRefusal F upper lower (d .level) (d
     means double = refl
     means step = refl
 
-    by-number : (k : ℕ) → choiceRefusal F upper lower (d .level) (d .q) ≡ k → replied k (chosen F upper lower d) ≡ says op → Took F upper lower op d
+    by-number : (k : ℕ) → choiceRefusal F upper lower (d .level) (d .q) ≡ k → refusalOr k refusedBy (says (chosen F upper lower d)) ≡ says op → Took F upper lower op d
     by-number zero c e =
         record {
           chosen = sym (means (chosen F upper lower d)) ∙ ap (λ (s : Said). meant (s .operation)) e ∙ means op;
@@ -67,7 +78,7 @@ pub refused-ends : (F : ℕ) (p : Path) (k : ℕ) → Sound F p k → (d : Drawi
 refused-ends F p k sound d kept number e =
     by-test (ltb (d .q) (2 ^ F))
     (λ t.
-    let f = ap (λ (s : Said). s .operation) (sym (choice-answers F _ _ d kept (p .upper) (p .lower) (sound .limits) (ltb-true (d .q) (2 ^ F) t)) ∙ e) in
+    let f = ap (λ (s : Said). s .operation) (sym (choice-answers F _ d kept (p .upper) (p .lower) (sound .limits) (ltb-true (d .q) (2 ^ F) t)) ∙ e) in
     absurd (Option·some-ne-none _ f))
     (λ t. ltb-false (d .q) (2 ^ F) t)
 
@@ -97,7 +108,7 @@ due-shown {l} {t = t} {e = e} {es = es} a =
     let one = subst (λ (n : ℕ). Ahead (sets l at (numbers e)) n (flat es) l at (flat (e ∷ es))) (one-more (t .points)) (stored l at (numbers e) (flat es)) in
     record { tally = a .tally; list = then one (a .list) }
   where
-    one-more : (n : ℕ) → entrySize * n + 3 ≡ entrySize * (n + 1)
+    one-more : (n : ℕ) → entrySize * n + entrySize ≡ entrySize * (n + 1)
     one-more n = omega arith
 
 -- a tally of at most n points
@@ -122,7 +133,7 @@ module _ (F : ℕ) (p : Path) (k : ℕ) (sound : Sound F p k) (op : Operation) (
   turn-next : m .drawing ≡ next F (p .upper) (p .lower) d
   turn-next =
       ap (λ (r : Moved). r .drawing)
-      (c ∙ ap (λ (o : Operation). called F o d) (sym (w .chosen)) ∙ chosen-accepted F _ _ d kept (p .upper) (p .lower) (sound .x) (sound .y) (w .before-end))
+      (c ∙ ap (λ (o : Operation). called F o d) (sym (w .chosen)) ∙ chosen-accepted F _ d kept (p .upper) (p .lower) (fits F p k sound) (w .before-end))
 
   turn-turned : m .drawing ≡ turned F op d
   turn-turned = turn-next ∙ ap (λ (o : Operation). turned F o d) (w .chosen)
@@ -236,7 +247,7 @@ pub outer-goes : {F : ℕ} {p : Path} {l l₁ l₀ : List ℤ} {t t₁ t₀ : Ta
 outer-goes {F} {p} {k = k} {d = d} o h e i end =
     record {
       most = omega arith;
-      few = few-most (i .few) (omega (arith, i .kept .on-x .within));
+      few = few-most (i .few) (omega (arith, i .kept .on in-x .within));
       due =
           due-then (due-by (sym (ap (λ (es : List Entry). es ++ onward F p (k + 1)) (rest-end F p k d end))) (i .due))
           (due-by (ap (λ (f : Drawing). rest F p k f ++ onward F p (k + 1)) e ∙ sym (onward-more F p k h)) (o .due));

@@ -8,10 +8,10 @@ use Rattle.rules.specs.Rules.{finest, degree, coordinates, mostSegments}
 use Rattle.engine.specs.Start.{startRefusal}
 use Rattle.entries.specs.declared.Entry.{Entry}
 use Rattle.entries.specs.Length.{moveLength}
-use Rattle.path.specs.declared.Plan.{Plan}
-use Rattle.path.specs.declared.Tally.{Tally}
-use Rattle.path.specs.Path.{Path, path, control, first}
+use Rattle.drawer.specs.declared.Plan.{Plan}
+use Rattle.drawer.specs.declared.Tally.{Tally}
+use Rattle.path.specs.Path.{Path, path, controls, first}
 use Rattle.path.specs.Entries.{entry, following}
 
 -- the path that a plan draws
 abbrev pub planned : List ℤ → Plan → Path
@@ -21,7 +21,7 @@ planned points plan = path points (plan .segments) (plan .level) (plan .upper) (
 pub record Ready (points : List ℤ) (level k : ℕ) : Type 0 where
   pub few : k < mostSegments
   pub inside : coordinates * (degree * k + degree) + 1 < length points
-  pub accepted : startRefusal finest (control points 0 k) (control points 1 k) level ≡ 0
+  pub accepted : startRefusal finest (controls points k) level ≡ 0
 
 -- a tally of the start alone, and one with one more point
 unfoldable pub begun : Entry → Tally

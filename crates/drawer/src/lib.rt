@@ -5,26 +5,21 @@ ghost use lib.ListN.{length};
 ghost use lib.Seq.{sets};
 ghost use Rattle.rules.specs.Rules.{finest, standardUpper, standardLower, degree, coordinates, mostSegments};
 ghost use Rattle.entries.specs.Entries.{entrySize, numbers, flat};
-ghost use Rattle.path.specs.Path.{path, control, first};
+ghost use Rattle.path.specs.Path.{path, pathRefusal, control, first};
 ghost use Rattle.path.specs.Entries.{entry, entries};
-ghost use Rattle.path.specs.Answer.{measureRefusal, refusedBy, measured, drawn, written};
-ghost use Rattle.path.specs.Tally.{planned, Ready, begun, added, Small, tally};
-use engine::Control;
+ghost use Rattle.path.specs.Answer.{refusedBy, measured, drawn, written};
+ghost use Rattle.drawer.specs.Tally.{planned, Ready, begun, added, Small, tally};
+use coordinate::Control;
 use engine::Drawing;
 use engine::Next;
+use entries::ENTRY_SIZE;
 use entries::Entry;
+use path::Drawn;
+use rules::COORDINATES;
+use rules::DEGREE;
+use rules::FINEST;
 use rules::STANDARD_LOWER;
 use rules::STANDARD_UPPER;
-
-// The positions of one segment.
-const END: u32 = 2048;
-
-// The answer: the number of points and the length, or the refusal with 0 for both.
-pub struct Drawn {
-    pub refusal: u32,
-    pub points: u32,
-    pub length: u32,
-}
 
 // How a path is drawn, beside its points.
 struct Plan {
@@ -57,7 +52,7 @@ pub fn draw(
     if answer.refusal != 0 {
         return answer;
     }
-    if list.len() < 3 * (answer.points as usize) {
+    if list.len() < ENTRY_SIZE * (answer.points as usize) {
         return refuse(9);
     }
     let plan = Plan {
@@ -118,7 +113,7 @@ pub fn measure_standard(points: &[i32], segments: u32, level: u32) -> Drawn
 // ---- refusals
 
 fn refusal_of(points: &[i32], plan: Plan) -> u32
-    ensures { λ r. ⌜ r ≡ measureRefusal finest (planned (now (points .entry)) plan) ⌝ }
+    ensures { λ r. ⌜ r ≡ pathRefusal finest (planned (now (points .entry)) plan) ⌝ }
 {
     let segments = plan.segments;
     let level = plan.level;
@@ -127,11 +122,9 @@ fn refusal_of(points: &[i32], plan: Plan) -> u32
     if !rules::size(segments, points.len()) {
         return 14;
     }
-    if !rules::points(points) {
-        return 1;
-    }
-    if !rules::chained(points) {
-        return 2;
+    let refusal = rules::points_refusal(points);
+    if refusal != 0 {
+        return refusal;
     }
     if !rules::level(level) {
         return 3;
@@ -156,7 +149,7 @@ fn refuse(refusal: u32) -> Drawn
 
 // Draws every segment of an accepted path: its entries go to the front of `list`, as far as it reaches.
 fn run(points: &[i32], plan: Plan, list: &mut [i32]) -> Tally
-    requires { ⌜ measureRefusal finest (planned (now points) plan) ≡ 0 ⌝ }
+    requires { ⌜ pathRefusal finest (planned (now points) plan) ≡ 0 ⌝ }
     ensures { λ r. ⌜ r ≡ tally finest (planned (now (points .entry)) plan) ⌝ }
     ensures { λ _. ⌜ now (list .exit) ≡ sets (now (list .entry)) 0 (flat (entries finest (planned (now (points .entry)) plan))) ⌝ }
 {
@@ -208,7 +201,7 @@ fn show(t: Tally, d: Drawing, k: u32, list: &mut [i32]) -> Tally
     ensures { λ _. ⌜ now (list .exit) ≡ sets (now (list .entry)) (entrySize * t .points) (numbers (entry finest k d)) ⌝ }
 {
     let e = entry_of(d, k);
-    entries::put(list, 3 * (t.points as usize), e);
+    entries::put(list, ENTRY_SIZE * (t.points as usize), e);
     add(t, e)
 }
 
@@ -228,7 +221,7 @@ fn entry_of(d: Drawing, k: u32) -> Entry
     requires { ⌜ (k < mostSegments) × (d .q ≤ 2 ^ finest) ⌝ }
     ensures { λ r. ⌜ r ≡ entry finest k d ⌝ }
 {
-    let position = END * k + d.q;
+    let position = (k << FINEST) + d.q;
     let shown = d.shown();
     Entry {
         position: position as i32,
@@ -252,11 +245,11 @@ fn control_of(points: &[i32], c: usize, k: u32) -> Control
     requires { ⌜ (c < coordinates) × (k < mostSegments) × (coordinates * (degree * k + degree) + 1 < length (now points)) ⌝ }
     ensures { λ r. ⌜ r ≡ control (now (points .entry)) c k ⌝ }
 {
-    let i = 6 * (k as usize) + c;
+    let i = COORDINATES * (DEGREE * (k as usize)) + c;
     Control {
         p0: points[i],
-        p1: points[i + 2],
-        p2: points[i + 4],
-        p3: points[i + 6],
+        p1: points[i + COORDINATES],
+        p2: points[i + 2 * COORDINATES],
+        p3: points[i + 3 * COORDINATES],
     }
 }

@@ -3,12 +3,14 @@
 -- `times` are the operations. The bounds are numerals that antt computes, so that each condition is `tt`.
 use mathlib.Core.Path.{_≡_, refl, sym, ap, _∙_, subst}
 use mathlib.Core.Bool.{true, false}
+use mathlib.Core.List.{List}
 use Prim.Native.Nat.{ℕ, _+_, _*_, _^_, _≤_, _<_}
 use native.Mathlib.Nat.{lt-of-le-of-lt, le-of-lt}
 use native.Mathlib.Omega.{arith}
 use lib.Dec.{T, leb, ltb, leb→le, ltb→lt}
 use lib.Pow.{pow-pos}
 use lib.IntN.{ℤ, pos, negsuc, natAbs, _+ℤ_, _-ℤ_, _*ℤ_}
+use lib.ListN.{getD}
 use lib.Signed.{mag, shrZ, nonNeg}
 use mir.Syntax.{Width, w32, w64}
 use mir.Val.{Fits, SFits, toZ, ofZ, bits, hbits}
@@ -46,6 +48,10 @@ fits {w} t n = subst (SFits w) (sym (n .is)) (size-fits t (n .small))
 -- what the machine reads back
 pub reads-back : {w : Width} {y z : ℤ} → y ≡ z → SFits w z → toZ w (ofZ w y) ≡ z
 reads-back {w} e f = ap (λ (v : ℤ). toZ w (ofZ w v)) e ∙ toZ-ofZ f
+
+-- a number that is read out of a list is of 32 bits; j is its place in other words
+pub number-read : (l : List ℤ) (i j : ℕ) → i ≡ j → mag (getD l i (pos 0)) < 2 ^ 31 → toZ w32 (ofZ w32 (getD l i (pos 0))) ≡ getD l j (pos 0)
+number-read l i j e h = toZ-ofZ (record { sfits = h }) ∙ ap (λ (n : ℕ). getD l n (pos 0)) e
 
 -- ---- where a number comes from
 

@@ -2,10 +2,10 @@
 use Prim.Native.Nat.{_+_}
 use native.Mathlib.Omega.{arith}
 use borrow.Author.Needs.{needs}
-use Rattle.entries.proofs.Laws.{move-most}
-use Rattle.path.specs.Tally.{added}
-use Rattle.path.proofs.add.Statement.{statement}
-use Rattle.path.proofs.add.Tie as tie
+use Rattle.entries.proofs.Length.{move-most}
+use Rattle.drawer.specs.Tally.{added}
+use Rattle.drawer.proofs.add.Statement.{statement}
+use Rattle.drawer.proofs.add.Tie as tie
 
 move-length-requires : tie.Need-move-length-requires
 move-length-requires c κs = search needs

@@ -7,11 +7,11 @@ use Rattle.rules.specs.Rules.{finest}
 use Rattle.engine.specs.declared.Drawing.{Drawing}
 use Rattle.entries.specs.declared.Entry.{Entry}
 use Rattle.entries.specs.Entries.{numbers}
 use Rattle.path.specs.Path.{first}
 use Rattle.path.specs.Entries.{entry}
-use Rattle.path.specs.Tally.{begun}
-use Rattle.path.proofs.begin.Statement.{statement}
-use Rattle.path.proofs.begin.Tie as tie
+use Rattle.drawer.specs.Tally.{begun}
+use Rattle.drawer.proofs.begin.Statement.{statement}
+use Rattle.drawer.proofs.begin.Tie as tie
 
 first-of-requires : tie.Need-first-of-requires
 first-of-requires c κs = search needs

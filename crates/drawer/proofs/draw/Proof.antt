@@ -1,11 +1,11 @@
 -- What measuring answered decides: its refusal, then the room, and then the run fills the list.
-use mathlib.Core.Path.{sym, ap, _∙_}
+use mathlib.Core.Path.{sym, _∙_}
+use mathlib.Core.List.{[]}
 use borrow.Author.Needs.{needs}
 use Rattle.rules.specs.Rules.{finest}
-use Rattle.path.specs.declared.Drawn.{Drawn}
-use Rattle.path.proofs.Answers.{measured-accepted, drawn-refused, drawn-nine, drawn-filled}
-use Rattle.path.proofs.draw.Statement.{statement}
-use Rattle.path.proofs.draw.Tie as tie
+use Rattle.drawer.proofs.Answers.{measure-refusal, drawn-refused, drawn-nine, drawn-filled}
+use Rattle.drawer.proofs.draw.Statement.{statement}
+use Rattle.drawer.proofs.draw.Tie as tie
 
 measure-requires : tie.Need-measure-requires
 measure-requires c κs = search needs
@@ -31,7 +31,7 @@ returns-2 c =
 run-requires : tie.Need-run-requires
 run-requires c κs =
     let a = c .before .before .before in
-    measured-accepted finest _ (ap (λ (m : Drawn). m .refusal) (sym (a .before .before .measure .ensures)) ∙ a .if1 .left)
+    sym (measure-refusal finest _ [] _ (a .before .before .measure .ensures)) ∙ a .if1 .left
 
 same-length : tie.Need-same-length
 same-length c = search needs

@@ -2,12 +2,15 @@
 use mathlib.Core.Path.{ap, _∙_}
 use borrow.Author.Needs.{needs}
 use Rattle.rules.specs.Rules.{finest}
+use Rattle.coordinate.specs.declared.Control.{Control}
 use Rattle.engine.specs.declared.Moved.{Moved}
+use Rattle.engine.specs.Coordinates.{Coordinate, pick}
+use Rattle.engine.proofs.Every.{picked}
 use Rattle.engine.specs.Start.{started}
 use Rattle.engine.proofs.Accepted.{start-begins}
-use Rattle.path.specs.Path.{first}
-use Rattle.path.proofs.first_of.Statement.{statement}
-use Rattle.path.proofs.first_of.Tie as tie
+use Rattle.path.specs.Path.{controls, first}
+use Rattle.drawer.proofs.first_of.Statement.{statement}
+use Rattle.drawer.proofs.first_of.Tie as tie
 
 control-of-requires : tie.Need-control-of-requires
 control-of-requires c κs = search needs
@@ -21,11 +24,15 @@ start-requires c κs = search needs
 returns : tie.Need-returns
 unfolding first
 returns c =
-    let s = c .before .before .before .before in
+    let a = c .before .before .before .before .args in
     let x = c .before .before .before .control-of .ensures in
     let y = c .before .before .control-of2 .ensures in
+    let p = controls (a .points .now) (a .k) in
     ap (λ (m : Moved). m .drawing)
-    (c .before .start .ensures ∙ (λ i. started finest (x i) (y i) (s .args .level)) ∙ start-begins finest _ _ (s .args .level) (s .pre .accepted))
+    (c .before .start .ensures
+    ∙ (λ i. started finest (pick (x i) (y i)) (a .level))
+    ∙ ap (λ (p : Coordinate → Control). started finest p (a .level)) (picked p)
+    ∙ start-begins finest p (a .level) (c .before .before .before .before .pre .accepted))
 
 pub first-of-spec : {M : Type 1} → statement M
 first-of-spec =

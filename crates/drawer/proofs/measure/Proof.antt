@@ -2,10 +2,12 @@
 use mathlib.Core.Path.{sym, ap, _∙_}
 use borrow.Author.Needs.{needs}
 use Rattle.rules.specs.Rules.{finest}
-use Rattle.path.specs.declared.Tally.{Tally}
-use Rattle.path.proofs.Answers.{measured-refused, measured-tally}
-use Rattle.path.proofs.measure.Statement.{statement}
-use Rattle.path.proofs.measure.Tie as tie
+use Rattle.rules.proofs.Refusals.{refuses}
+use Rattle.path.specs.Answer.{refusedBy, measured}
+use Rattle.drawer.specs.declared.Tally.{Tally}
+use Rattle.drawer.proofs.Answers.{measured-tally}
+use Rattle.drawer.proofs.measure.Statement.{statement}
+use Rattle.drawer.proofs.measure.Tie as tie
 
 refusal-of-requires : tie.Need-refusal-of-requires
 refusal-of-requires c κs = search needs
@@ -14,7 +16,8 @@ refuse-requires : tie.Need-refuse-requires
 refuse-requires c κs = search needs
 
 returns : tie.Need-returns
-returns c = c .refuse .ensures ∙ measured-refused finest _ (c .before .before .refusal-of .ensures) (c .before .if1 .taken)
+unfolding measured
+returns c = c .refuse .ensures ∙ refuses refusedBy _ (c .before .before .refusal-of .ensures) (c .before .if1 .taken)
 
 slice-aggregate-run : tie.Need-slice-aggregate-run
 slice-aggregate-run c = search needs

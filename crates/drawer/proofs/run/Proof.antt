@@ -9,13 +9,15 @@ use borrow.Author.Needs.{needs}
 use Rattle.rules.specs.Rules.{finest, mostSegments}
 use Rattle.coordinate.specs.Registers.{halve, double, step}
 use Rattle.engine.specs.Choice.{said, left}
 use Rattle.path.specs.Path.{Path, path}
-use Rattle.path.specs.Tally.{planned}
-use Rattle.path.proofs.Accepted.{accepted-lawful, segment-ready}
+use Rattle.drawer.specs.Tally.{planned}
+use Rattle.path.proofs.Accepted.{accepted-lawful}
 use Rattle.path.proofs.Segments.{Sound, sound}
-use Rattle.path.proofs.Drawer.{Took, took, refused-ends, few-small, Inner, Outer, onward, turn-kept, inner-falls, inner-quiet, inner-step, outer-starts, inner-starts, outer-goes, all-shown}
-use Rattle.path.proofs.run.Statement.{statement}
-use Rattle.path.proofs.run.Tie as tie
+use Rattle.distance.proofs.Demand3.{fine}
+use Rattle.engine.specs.Coordinates.{in-x}
+use Rattle.drawer.proofs.Drawer.{segment-ready, Took, took, refused-ends, few-small, Inner, Outer, onward, turn-kept, inner-falls, inner-quiet, inner-step, outer-starts, inner-starts, outer-goes, all-shown}
+use Rattle.drawer.proofs.run.Statement.{statement}
+use Rattle.drawer.proofs.run.Tie as tie
 
 abbrev Inv-operations : tie.InvT-operations
 Inv-operations points list₀ segments level upper lower t₀ k d₀ list t d =
@@ -37,7 +39,7 @@ abbrev the-path : tie.At-segments Inv-operations μ-operations Inv-segments μ-s
 the-path c = let s = c .before .before .before .before in planned (s .args .points .now) (s .args .plan)
 
 sound-at : (c : tie.In-segments Inv-operations μ-operations Inv-segments μ-segments) → Sound finest (the-path (c .before)) (c .before .segments .k)
-sound-at c = sound finest (the-path (c .before)) (omega arith) (c .before .before .before .before .before .pre) (c .before .segments .k) (c .segments-test .taken)
+sound-at c = sound finest (the-path (c .before)) fine (c .before .before .before .before .before .pre) (c .before .segments .k) (c .segments-test .taken)
 
 begin-requires : tie.Need-begin-requires Inv-operations μ-operations Inv-segments μ-segments
 begin-requires c κs =
@@ -119,7 +121,7 @@ show-requires c κs =
     let i = h .operations .inv in
     let on = turn-kept finest p _ (sound-at s) step _ (i .kept) (stepped t) _ (c .before .before .step .ensures) in
     let k : s .before .segments .k < mostSegments = omega (arith, s .segments-test .taken, accepted-lawful finest p (s .before .before .before .before .before .pre) .most) in
-    (few-small (i .few) (omega (arith, i .kept .on-x .within)), k, on .on-x .within)
+    (few-small (i .few) (omega (arith, i .kept .on in-x .within)), k, on .on in-x .within)
 
 operations-less-3 : tie.Need-operations-less-3 Inv-operations μ-operations Inv-segments μ-segments
 operations-less-3 c =

@@ -5,9 +5,9 @@ use lib.Seq.{sets}
 use borrow.Author.Needs.{needs}
 use Rattle.entries.specs.declared.Entry.{Entry}
 use Rattle.entries.specs.Entries.{entrySize, numbers}
-use Rattle.path.specs.Tally.{added}
-use Rattle.path.proofs.show.Statement.{statement}
-use Rattle.path.proofs.show.Tie as tie
+use Rattle.drawer.specs.Tally.{added}
+use Rattle.drawer.proofs.show.Statement.{statement}
+use Rattle.drawer.proofs.show.Tie as tie
 
 entry-of-requires : tie.Need-entry-of-requires
 entry-of-requires c κs = search needs

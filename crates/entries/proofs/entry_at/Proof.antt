@@ -1,13 +1,7 @@
 -- Each return rewrites the test of `entryAt` with what its branch found.
-use mathlib.Core.Path.{_≡_}
-use mathlib.Core.List.{List}
-use Prim.Native.Nat.{ℕ, _+_, _*_, _^_, _<_}
-use lib.IntN.{ℤ, pos}
-use lib.ListN.{getD}
-use lib.Signed.{mag}
-use mir.Syntax.{w32}
-use mir.Val.{toZ, ofZ}
-use mir.Facts.{toZ-ofZ}
+use mathlib.Core.Path.{refl}
+use Prim.Native.Nat.{_+_, _*_}
+use Rattle.numbers.proofs.Machine.{number-read}
 use borrow.Author.Tests.{lt-ltb, le-ltb}
 use Rattle.entries.specs.Entries.{entryAt}
 use borrow.Author.Needs.{needs}
@@ -45,17 +39,13 @@ mul-t13 c = search needs
 shared-slice-copy-out-t15 : tie.Need-shared-slice-copy-out-t15
 shared-slice-copy-out-t15 c = search needs
 
--- a number that is read is of 32 bits
-read : (l : List ℤ) (i : ℕ) → mag (getD l i (pos 0)) < 2 ^ 31 → toZ w32 (ofZ w32 (getD l i (pos 0))) ≡ getD l i (pos 0)
-read l i h = toZ-ofZ (record { sfits = h })
-
 returns-2 : tie.Need-returns-2
 unfolding entryAt
 returns-2 c =
     let s = c .before .before .before .before in
     let l = s .args .list .now in
     let at = 3 * s .args .i in
-    simp (lt-ltb _ _ (c .before .before .before .if1 .left), read l at (c .before .before .t8 .given), read l (at + 1) (c .before .t11 .given), read l (at + 2) (c .t15 .given))
+    simp (lt-ltb _ _ (c .before .before .before .if1 .left), number-read l at at refl (c .before .before .t8 .given), number-read l (at + 1) (at + 1) refl (c .before .t11 .given), number-read l (at + 2) (at + 2) refl (c .t15 .given))
 
 pub entry-at-spec : {M : Type 1} → statement M
 entry-at-spec =

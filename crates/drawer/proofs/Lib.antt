@@ -1,0 +1,3 @@
+-- Laws of the drawer's loops and answers.
+pub mod Answers
+pub mod Drawer
