@@ -1,9 +1,9 @@
-// Runs the worked cases of document 01 through the public functions of the path and of the engine, and prints the numbers that the
+// Runs the worked cases of document 01 through the public functions of the drawer and of the engine, and prints the numbers that the
 // document gives.
-use engine::Control;
+use coordinate::Control;
+use coordinate::Registers;
 use engine::Drawing;
 use engine::Moved;
-use engine::Registers;
 use entries::Found;
 use path::Drawn;
 
@@ -77,7 +77,7 @@ fn steep(name: &[u8], p: i32, given: u32) {
 fn listing(name: &[u8], x: Control, level: u32) -> Drawn {
     let points = [x.p0, 0, x.p1, 0, x.p2, 0, x.p3, 0];
     let mut list = [0i32; 64];
-    let drawn = path::draw(&points, 1, level, 65536, 32768, &mut list);
+    let drawn = drawer::draw(&points, 1, level, 65536, 32768, &mut list);
     column(name, b" positions", &list, drawn.points, false);
     column(name, b" x", &list, drawn.points, true);
     drawn

@@ -8,3 +8,4 @@ pub mod Joined
 pub mod Walk
 pub mod Spans
 pub mod Listed
+pub mod Cases

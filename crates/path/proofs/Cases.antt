@@ -12,21 +12,22 @@ use Rattle.numbers.specs.Tests.{eqbℤs}
 use Rattle.numbers.proofs.Tests.{eqbℤs→eq}
 use Rattle.numbers.specs.Tables.{All, every}
 use Rattle.numbers.proofs.Tables.{tested, all-append, all-map}
-use Rattle.rules.specs.Rules.{finest, isCoordinate, areNeighbours, isLevel, areLimits, isSegments, isSize, arePoints, areBeside, areChained}
-use Rattle.engine.specs.declared.Control.{Control}
-use Rattle.engine.specs.Curve.{curve}
-use Rattle.engine.specs.Registers.{startRegisters, turn}
+use Rattle.rules.specs.Rules.{finest, isCoordinate, areNeighbours, isLevel, areLimits, isSegments, isSize, arePoints, areBeside, areChained, pointsRefusal}
+use Rattle.coordinate.specs.declared.Control.{Control}
+use Rattle.coordinate.specs.Curve.{curve}
+use Rattle.coordinate.specs.Registers.{startRegisters, turn}
+use Rattle.coordinate.specs.Increment.{increment, doubledIncrement}
+use Rattle.coordinate.specs.Shown.{pixel}
 use Rattle.engine.specs.Drawing.{isAligned, turned}
-use Rattle.engine.specs.Choice.{increment, doubledIncrement, wantsHalve, wantsDouble, chosen}
-use Rattle.engine.specs.Shown.{pixel}
+use Rattle.engine.specs.Choice.{wantsHalve, wantsDouble, chosen}
 use Rattle.engine.proofs.Cases as engine
 use Rattle.entries.specs.Entries.{entrySize, flat}
 use Rattle.entries.specs.Length.{moveLength, lengthFrom, lengthOf}
 use Rattle.path.specs.declared.Drawn.{Drawn}
 use Rattle.path.specs.Path.{Path, path, pathRefusal, pointAt, control, first}
 use Rattle.path.specs.Segment.{turnsIn, turns}
 use Rattle.path.specs.Entries.{entry, shownBy, rest, following, entries}
-use Rattle.path.specs.Answer.{measureRefusal, drawRefusal, measured, drawn, written}
+use Rattle.path.specs.Answer.{drawRefusal, measured, drawn, written}
 
 -- the control points of x, and the document's list: its positions and its x; its length, where the document gives it
 pub record Row : Type 0 where
@@ -153,7 +154,7 @@ all-listed : (ws : List Row) → T (every right ws) → All Holds (map draws ws)
 all-listed ws t = all-map Holds draws ws (tested Listed right right-listed ws t)
 
 pub starred : All Holds table
-unfolding table moving still drawn written measured drawRefusal measureRefusal pathRefusal isSegments isSize arePoints areChained areBeside isCoordinate
+unfolding table moving still drawn written measured drawRefusal pathRefusal pointsRefusal isSegments isSize arePoints areChained areBeside isCoordinate
     areNeighbours isLevel areLimits entries following rest first control pointAt curve startRegisters turns turnsIn chosen wantsHalve
     wantsDouble increment doubledIncrement isAligned turned turn shownBy entry pixel flat lengthOf lengthFrom moveLength
 starred =
