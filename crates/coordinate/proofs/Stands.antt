@@ -8,11 +8,12 @@ use lib.Dec.{lit≤}
 use lib.Pow.{pow-mono}
 use lib.IntN.{ℤ, pos, negsuc, _*ℤ_}
 use borrow.Author.Tests.{le-leb}
-use Rattle.numbers.proofs.Size.{Size}
+use Rattle.numbers.proofs.Size.{Size, size-of, size-by, size-sum, size-floor}
 use Rattle.coordinate.specs.declared.Registers.{Registers}
 use Rattle.coordinate.specs.Curve.{Curve}
 use Rattle.coordinate.specs.Course.{Course}
 use Rattle.coordinate.specs.Registers.{isRegister, areRegisters}
+use Rattle.coordinate.specs.Shown.{pixel}
 use Rattle.coordinate.specs.Stands.{Stands}
 use Rattle.coordinate.proofs.Near.{At, near}
 use Rattle.coordinate.proofs.Sizes.{Tame, sizes}
@@ -41,6 +42,13 @@ bounded F p h t n j q r o =
 
 -- ---- where it stands
 
+shown-size : (F : ℕ) (p : Course) (n j q : ℕ) (r : Registers) → F ≤ 12 → Tame F p → At F (p .curve) n j q r → Size (pixel r) 16385
+unfolding pixel
+shown-size F p n j q r h t o =
+    let most : 2 ^ F ≤ 4096 = pow-mono {j = 12} h in
+    let d = sizes F p (omega arith) t n j q r o .d in
+    size-floor 65536 (lit≤ tt) (size-by refl (omega arith) (size-sum d (size-of 32768)))
+
 pub stands : (F : ℕ) (p : Course) (n j q : ℕ) (r : Registers) → F ≤ 12 → Tame F p → At F (p .curve) n j q r → Stands F p q r
 unfolding Bounded
 stands F p n j q r h t o =
@@ -52,4 +60,5 @@ stands F p n j q r h t o =
       first = at-first;
       first-shown = λ e. first-shown r (p .first) (at-first e);
       last-shown = λ e. last-shown F p n j r h t (subst (λ (t : ℕ). At F (p .curve) n j t r) e o);
+      shown = shown-size F p n j q r h t o .le;
     }

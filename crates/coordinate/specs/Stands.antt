@@ -2,7 +2,7 @@
 -- the exact curve, the start is exactly the first point, and the last point is what is shown at the end.
 use mathlib.Core.Path.{_≡_}
 use mathlib.Core.Bool.{true}
-use Prim.Native.Nat.{ℕ, _*_, _^_, _<_}
+use Prim.Native.Nat.{ℕ, _*_, _^_, _≤_, _<_}
 use lib.IntN.{pos, natAbs, _-ℤ_, _*ℤ_}
 use Rattle.coordinate.specs.declared.Registers.{Registers}
 use Rattle.coordinate.specs.Curve.{exact}
@@ -16,3 +16,5 @@ pub record Stands (F : ℕ) (p : Course) (q : ℕ) (r : Registers) : Type 0 wher
   pub first : q ≡ 0 → r .d ≡ pos 65536 *ℤ p .first
   pub first-shown : q ≡ 0 → pixel r ≡ p .first
   pub last-shown : q ≡ 2 ^ F → pixel r ≡ p .last
+  -- the point shown is at most 1 outside the range of coordinates
+  pub shown : natAbs (pixel r) ≤ 16385

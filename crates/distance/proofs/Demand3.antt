@@ -23,7 +23,7 @@ use Rattle.engine.specs.Choice.{chosen}
 use Rattle.engine.proofs.Accepted.{Accepted, accepted, start-begins}
 use Rattle.distance.specs.Calls.{after, travelled, ruled}
 use Rattle.distance.specs.Demand3.{Fine, Goes, Demand3, InNumbers}
-use Rattle.distance.proofs.Kept.{Kept, kept-fits, kept-turned, call-settled}
+use Rattle.distance.proofs.Kept.{Kept, kept-inside, kept-fits, kept-turned, call-settled}
 use Rattle.distance.proofs.Calls.{first-kept, after-kept, after-travelled}
 use Rattle.distance.proofs.Back.{double-undoes-halve, halve-undoes-double}
 use Rattle.distance.proofs.Choice.{choice-answers, chosen-accepted}
@@ -81,6 +81,7 @@ module _ (F : ℕ) (p : Coordinate → Course) (d : Drawing) (along : ℕ) (r : 
       let k = r .kept in
       record {
         parameter = r .parameter;
+        inside = kept-inside F (λ c. p c .curve) d k;
         stands = λ c. stands F (p c) (d .level) (k .below) (d .q) (of c d) (r .most) (r .tame c) (k .on c);
         call = settles;
         new = fit;

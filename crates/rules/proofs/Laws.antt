@@ -1,7 +1,7 @@
 -- What the rules say of the numbers that they accept.
-use mathlib.Core.Path.{_≡_, ap₂}
+use mathlib.Core.Path.{_≡_, refl, ap₂}
 use mathlib.Core.Bool.{true, _&&_}
-use Prim.Native.Nat.{ℕ, _≤_}
+use Prim.Native.Nat.{ℕ, _≤_, _<_}
 use native.Mathlib.Omega.{arith}
 use lib.Dec.{leb, eqb}
 use lib.IntN.{ℤ, pos, negsuc, _-ℤ_}
@@ -10,7 +10,7 @@ use borrow.Author.Tests.{leb-true, eqb-true, le-leb, eq-eqb}
 use Rattle.numbers.proofs.Order.{leZ-true, le-leZ}
 use Rattle.numbers.proofs.Size.{Size}
 use Rattle.numbers.proofs.Tests.{and-true, and-three}
-use Rattle.rules.specs.Rules.{isCoordinate, areNeighbours, areLimits, mostSegments, isSegments, pointNumbers, isSize}
+use Rattle.rules.specs.Rules.{isCoordinate, areNeighbours, areLimits, mostSegments, isSegments, pointNumbers, isSize, natural}
 
 pub coordinate-size : (p : ℤ) → isCoordinate p ≡ true → Size p 16384
 unfolding isCoordinate
@@ -62,3 +62,17 @@ pub holds-size : {S numbers : ℕ} → Sized S numbers → isSize S numbers ≡ 
 unfolding isSize isSegments
 holds-size {S} {numbers} s =
     ap₂ _&&_ (ap₂ _&&_ (le-leb 1 S (s .some)) (le-leb S mostSegments (s .most))) (eq-eqb numbers (pointNumbers S) (s .size))
+
+-- ---- numbers of a number list
+
+-- one below 0 is more than any rule allows, and any other is itself
+pub below-zero-too-large : (n : ℕ) → 65536 < natural (negsuc n)
+below-zero-too-large n = omega arith
+
+pub from-zero-itself : (n : ℕ) → natural (pos n) ≡ n
+from-zero-itself n = refl
+
+-- so what a rule accepts is not below 0
+pub accepted : (z : ℤ) → natural z ≤ 65536 → z ≡ pos (natural z)
+accepted (pos n) h = refl
+accepted (negsuc n) h = absurd (omega (arith, below-zero-too-large n))

@@ -1,5 +1,6 @@
 -- Laws of the rules, for the crates that cite them.
 pub mod Refusals
 pub mod Laws
+pub mod Order
 pub mod Cases
 pub mod Every

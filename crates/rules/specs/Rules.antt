@@ -4,7 +4,7 @@ use mathlib.Core.List.{List, [], _∷_}
 use Prim.Native.Nat.{ℕ, _+_, _*_}
 use lib.Dec.{leb, eqb}
 use lib.IntN.{ℤ, pos, negsuc, natAbs, _-ℤ_}
-use lib.ListN.{length, drop}
+use lib.ListN.{drop}
 use lib.Signed.{leZ}
 use Rattle.rules.specs.Refusals.{unless}
 

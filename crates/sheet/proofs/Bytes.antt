@@ -3,7 +3,7 @@ use mathlib.Core.Path.{_≡_, refl, sym, ap, ap₂, _∙_}
 use mathlib.Core.Bool.{Bool, true, false, cond}
 use mathlib.Core.List.{List, [], _∷_, _++_, append-assoc}
 use Prim.Native.Nat.{ℕ, zero, suc, _+_, _-_, _*_, _/_, _%_, _≤_, _<_}
-use native.Mathlib.Nat.{zero-add, add-zero}
+use native.Mathlib.Nat.{add-zero}
 use native.Mathlib.Numerals.{towards-suc}
 use native.Mathlib.Omega.{arith}
 use borrow.Author.Tests.{lt-ltb, le-ltb}
@@ -23,21 +23,6 @@ pub values-length : (b : List ℕ) (p n : ℕ) → length (valuesAt b p n) ≡ n
 unfolding valuesAt
 values-length b p zero = refl
 values-length b p (suc n) = ap suc (values-length b (p + 2) n)
-
--- a number more
-pub values-more : (b : List ℕ) (p n : ℕ) → 0 < n → valuesAt b p n ≡ i16At b p ∷ valuesAt b (p + 2) (n - 1)
-unfolding valuesAt
-values-more b p zero h = absurd (omega arith)
-values-more b p (suc n) h = let e : suc n - 1 ≡ n = omega arith in rw e
-
--- m numbers and then n
-pub values-add : (b : List ℕ) (p m n : ℕ) → valuesAt b p (m + n) ≡ valuesAt b p m ++ valuesAt b (p + 2 * m) n
-unfolding valuesAt
-values-add b p zero n = rw (zero-add n, add-zero p)
-values-add b p (suc m) n =
-    let e : suc m + n ≡ suc (m + n) = omega arith in
-    let f : p + 2 * suc m ≡ p + 2 + 2 * m = omega arith in
-    rw (e, f, values-add b (p + 2) m n)
 
 -- ---- what stands after x is read as by itself
 

@@ -6,37 +6,30 @@ use Prim.Native.Nat.{ℕ, zero, suc, _+_}
 use lib.Dec.{leb, eqb}
 use lib.IntN.{ℤ}
 use lib.ListN.{length}
-use Rattle.rules.specs.Rules.{Among, finest, isLevel, areLimits, isSegments, arePoints, areChained}
-use Rattle.rules.proofs.Laws.{first-among, line-among, among}
+use Rattle.rules.specs.Refusals.{Among}
+use Rattle.rules.specs.Rules.{finest, reach, isLevel, areLimits, isSegments, headRefusal, arePoints, areChained, pointsRefusal}
+use Rattle.rules.proofs.Refusals.{first-among, line-among, among}
 use Rattle.sheet.specs.Bytes.{u32At}
-use Rattle.sheet.specs.Sheet.{Target, headSize, sheetBytes, sheetNumbers, mostPaths, mostBytes}
-use Rattle.sheet.specs.Reading.{
-  recordEnd,
-  sheetAt,
-  pointsRefusal,
-  pathRules,
-  isOffset,
-  bodyRefusal,
-  recordRefusal,
-  recordsRefusal,
-  sheetRefusal,
-  readRefusal,
-}
-use Rattle.sheet.specs.Writing.{numberAt, pathEnd, sheetOf, pathRefusal, pathsRefusal, listRefusal, writeRefusal}
-use Rattle.sheet.specs.Answer.{readTable, writeTable, answered, readAnswer, numbersRead, writeAnswer, bytesWritten}
-use Rattle.sheet.proofs.Room.{answered-refusal, refused-answer, refused-buffer, roomRefusal}
+use Rattle.sheet.specs.Sheet.{Target, leastBytes, mostBytes, mostPaths, listHead, headSize, sheetBytes, sheetNumbers}
+use Rattle.sheet.specs.Records.{recordEnd, sheetAt}
+use Rattle.sheet.specs.NumberList.{numberAt, pathEnd, sheetOf}
+use Rattle.sheet.specs.PathRules.{pathRules}
+use Rattle.sheet.specs.Reading.{isOffset, bodyRefusal, recordRefusal, recordsRefusal, sheetRefusal, readRefusal}
+use Rattle.sheet.specs.Writing.{pathRefusal, pathsRefusal, listRefusal, writeRefusal}
+use Rattle.sheet.specs.Answer.{readTable, writeTable, readAnswer, numbersRead, writeAnswer, bytesWritten}
+use Rattle.sheet.proofs.Room.{answered, answered-refusal, refused-answer, refused-buffer, roomRefusal}
 
 -- ---- the tables
 
 -- 14, 3, 1 and 2 are in both
 path-among : {short : ℕ} (begins ends : Bool) (p : Target) {table : List ℕ} → Among short table → Among 14 table → Among 3 table → Among 1 table
     → Among 2 table → Among 0 table → Among (pathRules short begins ends p) table
-unfolding pathRules pointsRefusal
+unfolding pathRules headRefusal pointsRefusal
 path-among begins ends p short segments level points chained none =
     line-among begins short
-    (line-among (isSegments (p .segments)) segments
-    (line-among (isLevel finest (p .level)) level
-    (line-among ends short (line-among (arePoints (p .points)) points (line-among (areChained (p .points)) chained none)))))
+    (first-among (headRefusal finest (p .segments) (p .level)) _
+    (line-among (isSegments (p .segments)) segments (line-among (isLevel finest (p .level)) level none))
+    (line-among ends short (line-among (arePoints (p .points)) points (line-among (areChained reach (p .points)) chained none))))
 
 room-among : (k count room : ℕ) {table : List ℕ} → Among k table → Among 9 table → Among 0 table
     → Among (answered (roomRefusal k count room) count .refusal) table
@@ -61,7 +54,7 @@ unfolding readAnswer readRefusal sheetRefusal
 read-refuses-as-tabled b room =
     let N = u32At b 0 in
     room-among (sheetRefusal b) _ room
-    (line-among (leb 12 (length b)) (among tt)
+    (line-among (leb leastBytes (length b)) (among tt)
     (line-among (leb (length b) mostBytes) (among tt)
     (line-among (leb N mostPaths) (among tt)
     (line-among (leb (headSize N) (length b)) (among tt)
@@ -73,10 +66,10 @@ unfolding writeAnswer writeRefusal listRefusal
 write-refuses-as-tabled l room =
     let fits = leb (length (sheetBytes (sheetOf l))) mostBytes in
     room-among (listRefusal l) _ room
-    (line-among (leb 3 (length l)) (among tt)
+    (line-among (leb listHead (length l)) (among tt)
     (line-among (leb (numberAt l 0) mostPaths) (among tt)
     (line-among (areLimits (numberAt l 1) (numberAt l 2)) (among tt)
-    (first-among (pathsRefusal l (numberAt l 0) 3) _ (paths-among l (numberAt l 0) 3) (line-among fits (among tt) (among tt))))))
+    (first-among (pathsRefusal l (numberAt l 0) listHead) _ (paths-among l (numberAt l 0) listHead) (line-among fits (among tt) (among tt))))))
     (among tt) (among tt)
 
 -- ---- a refusal

@@ -5,21 +5,23 @@ use mathlib.Core.List.{List, [], _∷_}
 use Prim.Native.Nat.{ℕ, suc, _+_, _<_}
 use native.Mathlib.Omega.{arith}
 use lib.IntN.{pos, negsuc}
-use Rattle.rules.specs.Rules.{isCoordinate, areNeighbours, isLevel, areLimits, isSegments, arePoints, areBeside, areChained}
+use Rattle.rules.specs.Rules.{
+  isCoordinate,
+  areNeighbours,
+  isLevel,
+  areLimits,
+  isSegments,
+  headRefusal,
+  arePoints,
+  areBeside,
+  areChained,
+  pointsRefusal,
+}
 use Rattle.sheet.specs.Bytes.{bits16, valueBytes, valuesAt}
 use Rattle.sheet.specs.Sheet.{Sheet, recordBytes, records, offsets, sheetBytes, pathNumbers, sheetNumbers}
-use Rattle.sheet.specs.Reading.{
-  recordAt,
-  recordsAt,
-  sheetAt,
-  pointsRefusal,
-  pathRules,
-  isOffset,
-  bodyRefusal,
-  recordRefusal,
-  recordsRefusal,
-  sheetRefusal,
-}
+use Rattle.sheet.specs.Records.{recordAt, recordsAt, sheetAt}
+use Rattle.sheet.specs.PathRules.{pathRules}
+use Rattle.sheet.specs.Reading.{isOffset, bodyRefusal, recordRefusal, recordsRefusal, sheetRefusal}
 
 -- In hex: 01000000 00000100 00800000, the count and the limits; 10000000, the offset; 01000000, segments and level;
 -- 00000000 01000000 02000000 03000000, the points.
@@ -44,7 +46,7 @@ pub document-sheet : (sheetBytes pathA ≡ documentBytes) × (sheetRefusal docum
     × (sheetNumbers (sheetAt documentBytes)
     ≡ pos 1 ∷ pos 65536 ∷ pos 32768 ∷ pos 1 ∷ pos 0 ∷ pos 0 ∷ pos 0 ∷ pos 1 ∷ pos 0 ∷ pos 2 ∷ pos 0 ∷ pos 3 ∷ pos 0 ∷ [])
 unfolding sheetBytes offsets records recordBytes valueBytes sheetAt recordsAt recordAt valuesAt sheetNumbers pathNumbers sheetRefusal
-    recordsRefusal recordRefusal bodyRefusal isOffset pathRules pointsRefusal areLimits isSegments isLevel arePoints isCoordinate
+    recordsRefusal recordRefusal bodyRefusal isOffset pathRules headRefusal pointsRefusal areLimits isSegments isLevel arePoints isCoordinate
     areChained areBeside areNeighbours
 document-sheet = (refl, refl, refl)
 

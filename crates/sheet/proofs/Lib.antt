@@ -4,6 +4,7 @@ pub mod PathRules
 pub mod Reading
 pub mod ReadsBack
 pub mod ReadsOnly
+pub mod NumberList
 pub mod Writing
 pub mod WritesBack
 pub mod WritesOnly

@@ -1,17 +1,17 @@
--- The rules of one path: a path without a refusal is one that keeps each of them.
-use mathlib.Core.Path.{_≡_, ap₂}
+-- The rules of one path: a path without a refusal is one that keeps each of them, and the order in which they are asked.
+use mathlib.Core.Path.{_≡_, ap₂, _∙_}
 use mathlib.Core.Bool.{Bool, true, false, _&&_}
-use mathlib.Core.List.{List}
-use Prim.Native.Nat.{ℕ, suc}
-use borrow.Author.Tests.{eq-eqb}
-use lib.Dec.{eqb}
-use lib.IntN.{ℤ}
+use Prim.Native.Nat.{ℕ, suc, _≤_, _<_}
+use native.Mathlib.Omega.{arith}
+use borrow.Author.Tests.{le-leb, lt-leb, eq-eqb}
+use lib.Dec.{leb, eqb}
 use lib.ListN.{length}
 use Rattle.numbers.proofs.Tests.{and-true}
-use Rattle.rules.specs.Rules.{finest, isLevel, isSegments, pointNumbers, isSize, arePoints, areChained}
-use Rattle.rules.proofs.Laws.{rule-kept}
+use Rattle.rules.specs.Rules.{finest, reach, isLevel, isSegments, pointNumbers, isSize, headRefusal, arePoints, areChained, pointsRefusal}
+use Rattle.rules.proofs.Refusals.{rule-kept, first-kept, first-stop}
+use Rattle.rules.proofs.Order.{head-refuses-14, head-refuses-3, head-accepted, head-kept, points-accepted, points-kept}
 use Rattle.sheet.specs.Sheet.{Target, RightPath}
-use Rattle.sheet.specs.Reading.{pointsRefusal, pathRules}
+use Rattle.sheet.specs.PathRules.{pathRules}
 
 pub record Kept (there whole : Bool) (p : Target) : Type 0 where
   pub begins : there ≡ true
@@ -19,22 +19,23 @@ pub record Kept (there whole : Bool) (p : Target) : Type 0 where
   pub level : isLevel finest (p .level) ≡ true
   pub ends : whole ≡ true
   pub points : arePoints (p .points) ≡ true
-  pub chained : areChained (p .points) ≡ true
+  pub chained : areChained reach (p .points) ≡ true
 
 pub rules-kept : (short : ℕ) (begins ends : Bool) (p : Target) → pathRules (suc short) begins ends p ≡ 0 → Kept begins ends p
-unfolding pathRules pointsRefusal
+unfolding pathRules
 rules-kept short begins ends p e =
     let there = rule-kept begins short _ e in
-    let segments = rule-kept (isSegments (p .segments)) 13 _ (there .1) in
-    let level = rule-kept (isLevel finest (p .level)) 2 _ (segments .1) in
-    let whole = rule-kept ends short _ (level .1) in
-    let points = rule-kept (arePoints (p .points)) 0 _ (whole .1) in
-    let chained = rule-kept (areChained (p .points)) 1 _ (points .1) in
-    record { begins = there .0; segments = segments .0; level = level .0; ends = whole .0; points = points .0; chained = chained .0 }
+    let rest = first-kept (headRefusal finest (p .segments) (p .level)) _ (there .1) in
+    let whole = rule-kept ends short _ (rest .1) in
+    let head = head-kept finest (p .segments) (p .level) (rest .0) in
+    let points = points-kept reach (p .points) (whole .1) in
+    record { begins = there .0; segments = head .0; level = head .1; ends = whole .0; points = points .0; chained = points .1 }
 
 pub kept-rules : (short : ℕ) {begins ends : Bool} {p : Target} → Kept begins ends p → pathRules (suc short) begins ends p ≡ 0
-unfolding pathRules pointsRefusal
-kept-rules short k = rw (k .begins, k .segments, k .level, k .ends, k .points, k .chained)
+unfolding pathRules
+kept-rules short {p = p} k =
+    rw (k .begins, head-accepted finest (p .segments) (p .level) (k .segments) (k .level), k .ends)
+    (points-accepted reach (p .points) (k .points) (k .chained))
 
 -- ---- a right path keeps them, and one with all its points that keeps them is right
 
@@ -48,7 +49,7 @@ pub kept-right : {there whole : Bool} {p : Target} → length (p .points) ≡ po
 unfolding isSize
 kept-right e k = record { size = ap₂ _&&_ (k .segments) (eq-eqb _ _ e); level = k .level; points = k .points; chained = k .chained }
 
--- ---- the order of the rules: each number where all before it are kept
+-- ---- the order of the rules: each where all before it are kept
 
 module _ (short : ℕ) (begins ends : Bool) (p : Target) where
   pub refuses-no-head : begins ≡ false → pathRules short begins ends p ≡ short
@@ -56,30 +57,41 @@ module _ (short : ℕ) (begins ends : Bool) (p : Target) where
   refuses-no-head e = rw e
 
   module _ (there : begins ≡ true) where
-    pub refuses-14 : isSegments (p .segments) ≡ false → pathRules short begins ends p ≡ 14
+    pub refuses-by-head : (headRefusal finest (p .segments) (p .level) ≡ 0 → ⊥)
+        → pathRules short begins ends p ≡ headRefusal finest (p .segments) (p .level)
     unfolding pathRules
-    refuses-14 e = rw (there, e)
+    refuses-by-head h = rw there (first-stop (headRefusal finest (p .segments) (p .level)) _ h)
 
-    module _ (segments : isSegments (p .segments) ≡ true) where
-      pub refuses-3 : isLevel finest (p .level) ≡ false → pathRules short begins ends p ≡ 3
+    refuses-by-number : {k : ℕ} → headRefusal finest (p .segments) (p .level) ≡ suc k → pathRules short begins ends p ≡ suc k
+    refuses-by-number e = refuses-by-head (λ z. omega (arith, e)) ∙ e
+
+    module _ (head : headRefusal finest (p .segments) (p .level) ≡ 0) where
+      pub refuses-cut : ends ≡ false → pathRules short begins ends p ≡ short
       unfolding pathRules
-      refuses-3 e = rw (there, segments, e)
+      refuses-cut e = rw (there, head, e)
 
-      module _ (level : isLevel finest (p .level) ≡ true) where
-        pub refuses-cut : ends ≡ false → pathRules short begins ends p ≡ short
-        unfolding pathRules
-        refuses-cut e = rw (there, segments, level, e)
+      pub refuses-by-points : ends ≡ true → pathRules short begins ends p ≡ pointsRefusal reach (p .points)
+      unfolding pathRules
+      refuses-by-points e = rw (there, head, e)
 
-        pub refuses-by-points : ends ≡ true → pathRules short begins ends p ≡ pointsRefusal (p .points)
-        unfolding pathRules
-        refuses-by-points e = rw (there, segments, level, e)
+-- The same in numbers. It takes `head` places to begin and `end` places to end, of `size` that there are; one that ends early has the number
+-- `short`. That 1 comes before 2 is in rules/proofs/Order.
+pub record PathOrder (refusal short head end size : ℕ) (p : Target) : Type 0 where
+  pub no-head : size < head → refusal ≡ short
+  pub no-segments : head ≤ size → isSegments (p .segments) ≡ false → refusal ≡ 14
+  pub no-level : head ≤ size → isSegments (p .segments) ≡ true → isLevel finest (p .level) ≡ false → refusal ≡ 3
+  pub cut : head ≤ size → isSegments (p .segments) ≡ true → isLevel finest (p .level) ≡ true → size < end → refusal ≡ short
+  pub by-points : head ≤ size → isSegments (p .segments) ≡ true → isLevel finest (p .level) ≡ true → end ≤ size
+      → refusal ≡ pointsRefusal reach (p .points)
 
--- 1 over all the points comes before 2
-module _ (zs : List ℤ) where
-  pub refuses-1 : arePoints zs ≡ false → pointsRefusal zs ≡ 1
-  unfolding pointsRefusal
-  refuses-1 e = rw e
-
-  pub refuses-2 : arePoints zs ≡ true → areChained zs ≡ false → pointsRefusal zs ≡ 2
-  unfolding pointsRefusal
-  refuses-2 points e = rw (points, e)
+pub rules-in-order : (short head end size : ℕ) (p : Target) → PathOrder (pathRules short (leb head size) (leb end size) p) short head end size p
+rules-in-order short head end size p =
+    let S = p .segments in
+    let n = p .level in
+    record {
+      no-head = λ h. refuses-no-head short _ _ p (lt-leb head size h);
+      no-segments = λ h s. refuses-by-number short _ _ p (le-leb head size h) (head-refuses-14 finest S n s);
+      no-level = λ h s l. refuses-by-number short _ _ p (le-leb head size h) (head-refuses-3 finest S n s l);
+      cut = λ h s l e. refuses-cut short _ _ p (le-leb head size h) (head-accepted finest S n s l) (lt-leb end size e);
+      by-points = λ h s l e. refuses-by-points short _ _ p (le-leb head size h) (head-accepted finest S n s l) (le-leb end size e);
+    }

@@ -6,10 +6,12 @@ use native.Mathlib.Omega.{arith}
 use borrow.Author.Tests.{le-leb, eq-eqb}
 use lib.ListN.{length, length-append}
 use Rattle.numbers.specs.Tables.{All}
-use Rattle.rules.proofs.Laws.{first-on, limits-hold, Sized, size-holds}
+use Rattle.rules.proofs.Refusals.{first-on}
+use Rattle.rules.proofs.Laws.{limits-hold, Sized, size-holds}
 use Rattle.sheet.specs.Bytes.{le16, le32, valueBytes, u16At, u32At, valuesAt}
 use Rattle.sheet.specs.Sheet.{Target, Sheet, headSize, recordBytes, records, offsets, sheetBytes, mostBytes, RightPath, Right}
-use Rattle.sheet.specs.Reading.{recordAt, recordEnd, recordsAt, sheetAt, isOffset, bodyRefusal, recordRefusal, recordsRefusal, sheetRefusal}
+use Rattle.sheet.specs.Records.{recordAt, recordEnd, recordsAt, sheetAt}
+use Rattle.sheet.specs.Reading.{isOffset, bodyRefusal, recordRefusal, recordsRefusal, sheetRefusal}
 use Rattle.sheet.proofs.Bytes.{u16-at, u32-at, u16-back, u32-back, bits-small, values-back}
 use Rattle.sheet.proofs.Sheets.{length-record, length-offsets, length-bytes, level-short, points-short}
 use Rattle.sheet.proofs.PathRules.{kept-rules, right-kept}

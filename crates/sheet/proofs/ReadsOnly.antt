@@ -7,10 +7,11 @@ use native.Mathlib.Omega.{arith}
 use lib.ListN.{length, drop, drop-of-length-le}
 use Rattle.numbers.specs.Tables.{All}
 use Rattle.rules.specs.Rules.{pointNumbers}
-use Rattle.rules.proofs.Laws.{first-kept}
+use Rattle.rules.proofs.Refusals.{first-kept}
 use Rattle.sheet.specs.Bytes.{Bytes, le16, le32, u16At, u32At}
 use Rattle.sheet.specs.Sheet.{headSize, recordBytes, records, offsets, sheetBytes, RightPath, Right}
-use Rattle.sheet.specs.Reading.{recordAt, recordEnd, recordsAt, sheetAt, recordRefusal, recordsRefusal, sheetRefusal}
+use Rattle.sheet.specs.Records.{recordAt, recordEnd, recordsAt, sheetAt}
+use Rattle.sheet.specs.Reading.{recordRefusal, recordsRefusal, sheetRefusal}
 use Rattle.sheet.proofs.Bytes.{values-length, u16-only, u32-only, values-only}
 use Rattle.sheet.proofs.Sheets.{length-record}
 use Rattle.sheet.proofs.PathRules.{kept-right}

@@ -1,4 +1,4 @@
--- The order of the refusals: each number where all tests before it are kept, whatever comes after. That 1 comes before 2 is in PathRules; that
+-- The order of the refusals: each number where all tests before it are kept, whatever comes after. Within one path that is in PathRules; that
 -- one record or path comes before the next, and all before 16 or 17, is `records-stop`, `records-left` of Reading and `paths-stop`,
 -- `paths-left` of Writing.
 use mathlib.Core.Path.{_≡_}
@@ -7,17 +7,18 @@ use mathlib.Core.List.{List}
 use Prim.Native.Nat.{ℕ, _+_, _*_, _≤_, _<_}
 use native.Mathlib.Omega.{arith}
 use borrow.Author.Tests.{le-leb, lt-leb, eq-eqb, ne-eqb}
-use lib.Dec.{leb}
 use lib.IntN.{ℤ}
 use lib.ListN.{length}
-use Rattle.rules.specs.Rules.{finest, isLevel, areLimits, isSegments}
-use Rattle.rules.proofs.Laws.{first-stop}
+use Rattle.rules.specs.Rules.{areLimits}
+use Rattle.rules.proofs.Refusals.{first-stop}
 use Rattle.sheet.specs.Bytes.{u32At}
-use Rattle.sheet.specs.Sheet.{Target, headSize, sheetBytes, sheetNumbers, mostPaths, mostBytes}
-use Rattle.sheet.specs.Reading.{recordAt, recordEnd, sheetAt, pointsRefusal, pathRules, isOffset, bodyRefusal, recordRefusal, recordsRefusal, sheetRefusal, readRefusal}
-use Rattle.sheet.specs.Writing.{numberAt, pathAt, pathEnd, sheetOf, pathRefusal, pathsRefusal, listRefusal, writeRefusal}
+use Rattle.sheet.specs.Sheet.{mostBytes, mostPaths, headSize, sheetBytes, sheetNumbers}
+use Rattle.sheet.specs.Records.{recordAt, recordEnd, sheetAt}
+use Rattle.sheet.specs.NumberList.{numberAt, pathAt, pathEnd, sheetOf}
+use Rattle.sheet.specs.Reading.{isOffset, bodyRefusal, recordRefusal, recordsRefusal, sheetRefusal, readRefusal}
+use Rattle.sheet.specs.Writing.{pathRefusal, pathsRefusal, listRefusal, writeRefusal}
 use Rattle.sheet.specs.Answer.{refusedBy, readAnswer, writeAnswer}
-use Rattle.sheet.proofs.PathRules.{refuses-no-head, refuses-14, refuses-3, refuses-cut, refuses-by-points}
+use Rattle.sheet.proofs.PathRules.{PathOrder, rules-in-order}
 use Rattle.sheet.proofs.Room.{room-short, room-refused}
 
 -- ---- reading: 11, 12, 4, the records
@@ -62,25 +63,6 @@ module _ (b : List ℕ) (k p : ℕ) where
   record-refuses-by-body e = rw (eq-eqb _ p e)
 
 -- ---- one path, in a sheet and in a number list
-
--- It takes `head` places to begin and `end` places to end, of `size` that there are; one that ends early has the number `short`.
-pub record PathOrder (refusal short head end size : ℕ) (p : Target) : Type 0 where
-  pub no-head : size < head → refusal ≡ short
-  pub no-segments : head ≤ size → isSegments (p .segments) ≡ false → refusal ≡ 14
-  pub no-level : head ≤ size → isSegments (p .segments) ≡ true → isLevel finest (p .level) ≡ false → refusal ≡ 3
-  pub cut : head ≤ size → isSegments (p .segments) ≡ true → isLevel finest (p .level) ≡ true → size < end → refusal ≡ short
-  pub by-points : head ≤ size → isSegments (p .segments) ≡ true → isLevel finest (p .level) ≡ true → end ≤ size
-      → refusal ≡ pointsRefusal (p .points)
-
-rules-in-order : (short head end size : ℕ) (p : Target) → PathOrder (pathRules short (leb head size) (leb end size) p) short head end size p
-rules-in-order short head end size p =
-    record {
-      no-head = λ h. refuses-no-head short _ _ p (lt-leb head size h);
-      no-segments = λ h s. refuses-14 short _ _ p (le-leb head size h) s;
-      no-level = λ h s l. refuses-3 short _ _ p (le-leb head size h) s l;
-      cut = λ h s l e. refuses-cut short _ _ p (le-leb head size h) s l (lt-leb end size e);
-      by-points = λ h s l e. refuses-by-points short _ _ p (le-leb head size h) s l (le-leb end size e);
-    }
 
 -- a record at p: 15 for its first four bytes, 14, 3, 15 for its points, then 1 and 2
 pub record-order : (b : List ℕ) (p : ℕ) → PathOrder (bodyRefusal b p) 15 (p + 4) (recordEnd b p) (length b) (recordAt b p)

@@ -1,30 +1,30 @@
 -- The answer and the lent buffer, by the refusal and by the room: what reading and writing have in common.
 use mathlib.Core.Path.{_≡_, refl, sym, _∙_}
 use mathlib.Core.List.{List, _++_}
-use Prim.Native.Nat.{ℕ, zero, suc, _≤_, _<_}
+use Prim.Native.Nat.{ℕ, _≤_, _<_}
 use borrow.Author.Tests.{leb-true, le-leb, lt-leb}
 use lib.Dec.{leb}
 use lib.ListN.{length, take, drop}
 use lib.Seq.{sets, take-append-seam}
 use Rattle.numbers.proofs.Buffers.{sets-front}
-use Rattle.rules.specs.Rules.{unless, firstOf, filled}
-use Rattle.rules.proofs.Laws.{rule-kept, first-kept, first-stop}
+use Rattle.rules.specs.Refusals.{unless, firstOf, refusalOr, filled}
+use Rattle.rules.proofs.Refusals.{rule-kept, first-kept, first-stop, refuses, number-answered}
 use Rattle.sheet.specs.declared.Written.{Written}
-use Rattle.sheet.specs.Answer.{refusedBy, answered}
+use Rattle.sheet.specs.Answer.{refusedBy, wrote}
 
 -- ---- by the refusal
 
+abbrev pub answered : ℕ → ℕ → Written
+answered k count = refusalOr k refusedBy (wrote count)
+
 pub answered-refusal : (k count : ℕ) → answered k count .refusal ≡ k
-answered-refusal zero count = refl
-answered-refusal (suc k) count = refl
+answered-refusal k count = number-answered refusedBy (wrote count) (λ w. w .refusal) (λ k. refl) refl k
 
 pub refused-answer : (k count : ℕ) → (k ≡ 0 → ⊥) → answered k count ≡ refusedBy k
-refused-answer zero count h = absurd (h refl)
-refused-answer (suc k) count h = refl
+refused-answer k count h = sym (refuses refusedBy (wrote count) refl h)
 
 pub refused-buffer : {A : Type 0} (k : ℕ) (values buffer : List A) → (k ≡ 0 → ⊥) → filled k values buffer ≡ buffer
-refused-buffer zero values buffer h = absurd (h refl)
-refused-buffer (suc k) values buffer h = refl
+refused-buffer k values buffer h = sym (refuses (λ _. buffer) (values ++ drop (length values) buffer) {k = k} refl h)
 
 -- ---- by the room
 
@@ -46,7 +46,7 @@ module _ (k count room : ℕ) where
 
 module _ {A : Type 0} where
   pub room-enough : {k : ℕ} {found values : List A} (buffer : List A) → k ≡ 0 → found ≡ values → length values ≤ length buffer
-      → (answered (roomRefusal k (length found) (length buffer)) (length found) ≡ record { refusal = 0; count = length values })
+      → (answered (roomRefusal k (length found) (length buffer)) (length found) ≡ wrote (length values))
       × (filled (roomRefusal k (length found) (length buffer)) found buffer ≡ values ++ drop (length values) buffer)
   room-enough {values = values} buffer e f h =
       let room = le-leb (length values) (length buffer) h in
@@ -54,7 +54,7 @@ module _ {A : Type 0} where
 
   -- the values that the answer counts are those in front
   pub front-answered : {answer : Written} {list : List A} (values buffer : List A)
-      → (answer ≡ record { refusal = 0; count = length values }) × (list ≡ values ++ drop (length values) buffer)
+      → (answer ≡ wrote (length values)) × (list ≡ values ++ drop (length values) buffer)
       → take (answer .count) list ≡ values
   front-answered values buffer e = rw (e .0, e .1) (take-append-seam values (drop (length values) buffer))
 
@@ -66,16 +66,19 @@ Outcome k values buffer answer after =
     let refusal = roomRefusal k (length values) (length buffer) in
     (answer ≡ answered refusal (length values)) × (after ≡ filled refusal values buffer)
 
-module _ {A : Type 0} {k r : ℕ} (values buffer : List A) (e : r ≡ k) where
-  pub refused : (r ≡ 0 → ⊥) → Outcome k values buffer (refusedBy r) buffer
-  refused h = rw (sym e, first-stop r _ h) (sym (refused-answer r (length values) h), sym (refused-buffer r values buffer h))
+-- r is the number of these tests as they were made, n the count as it was made
+module _ {A : Type 0} {k r : ℕ} {answer : Written} (values buffer : List A) (e : r ≡ k) where
+  pub refused : (r ≡ 0 → ⊥) → answer ≡ refusedBy r → Outcome k values buffer answer buffer
+  refused h a =
+      rw (a, sym e, first-stop r _ h) (sym (refused-answer r (length values) h), sym (refused-buffer r values buffer h))
 
-  module _ (z : r ≡ 0) where
-    pub without-room : length buffer < length values → Outcome k values buffer (refusedBy 9) buffer
-    without-room h = rw (sym e ∙ z, lt-leb _ _ h) (refl, refl)
+  module _ {n : ℕ} (z : r ≡ 0) (counted : n ≡ length values) where
+    pub without-room : length buffer < n → answer ≡ refusedBy 9 → Outcome k values buffer answer buffer
+    without-room h a = let less = rw counted at h in rw (a, sym e ∙ z, lt-leb _ _ less) (refl, refl)
 
-    pub with-room : length values ≤ length buffer
-        → Outcome k values buffer (record { refusal = 0; count = length values }) (sets buffer 0 values)
-    with-room h =
-        let enough = room-enough {found = values} buffer (sym e ∙ z) refl h in
-        (sym (enough .0), sets-front buffer values h ∙ sym (enough .1))
+    pub with-room : {after : List A} → n ≤ length buffer → answer ≡ wrote n → after ≡ sets buffer 0 values
+        → Outcome k values buffer answer after
+    with-room h a stored =
+        let fits = rw counted at h in
+        let enough = room-enough {found = values} buffer (sym e ∙ z) refl fits in
+        (a ∙ rw counted (sym (enough .0)), stored ∙ sets-front buffer values fits ∙ sym (enough .1))

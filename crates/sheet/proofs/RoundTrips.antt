@@ -7,10 +7,12 @@ use native.Mathlib.Omega.{arith}
 use lib.IntN.{ℤ}
 use lib.ListN.{length, drop}
 use Rattle.sheet.specs.Bytes.{Bytes}
-use Rattle.sheet.specs.Sheet.{Sheet, sheetBytes, sheetNumbers, Right}
-use Rattle.sheet.specs.Reading.{sheetAt, sheetRefusal, readRefusal}
-use Rattle.sheet.specs.Writing.{sheetOf, listRefusal, writeRefusal}
-use Rattle.sheet.specs.Answer.{readAnswer, numbersRead, writeAnswer, bytesWritten}
+use Rattle.sheet.specs.Sheet.{Sheet, mostNumbers, sheetBytes, sheetNumbers, Right}
+use Rattle.sheet.specs.Records.{sheetAt}
+use Rattle.sheet.specs.NumberList.{sheetOf}
+use Rattle.sheet.specs.Reading.{sheetRefusal, readRefusal}
+use Rattle.sheet.specs.Writing.{listRefusal, writeRefusal}
+use Rattle.sheet.specs.Answer.{wrote, readAnswer, numbersRead, writeAnswer, bytesWritten}
 use Rattle.sheet.specs.Demand2.{SameBytes, SameNumbers, answeredNumbers, answeredBytes}
 use Rattle.sheet.proofs.Sheets.{largest}
 use Rattle.sheet.proofs.Room.{room-accepted, room-enough, front-answered}
@@ -30,14 +32,14 @@ read-accepted b room bs e =
     (only .0, only .1, accepted .1)
 
 pub right-read : (s : Sheet) (numbers : List ℤ) → Right s → length (sheetNumbers s) ≤ length numbers
-    → (readAnswer (sheetBytes s) (length numbers) ≡ record { refusal = 0; count = length (sheetNumbers s) })
+    → (readAnswer (sheetBytes s) (length numbers) ≡ wrote (length (sheetNumbers s)))
     × (numbersRead (sheetBytes s) numbers ≡ sheetNumbers s ++ drop (length (sheetNumbers s)) numbers)
 unfolding readAnswer readRefusal numbersRead
 right-read s numbers r h = let back = reads-back s r in room-enough numbers (back .1) (ap sheetNumbers (back .0)) h
 
--- into 16,384 numbers every sheet that keeps its rules is read
-pub room-for-every-sheet : (b : List ℕ) (numbers : List ℤ) → Bytes b → sheetRefusal b ≡ 0 → 16384 ≤ length numbers
-    → readAnswer b (length numbers) ≡ record { refusal = 0; count = length (sheetNumbers (sheetAt b)) }
+-- into 16,384 numbers, `mostNumbers`, every sheet that keeps its rules is read
+pub room-for-every-sheet : (b : List ℕ) (numbers : List ℤ) → Bytes b → sheetRefusal b ≡ 0 → mostNumbers ≤ length numbers
+    → readAnswer b (length numbers) ≡ wrote (length (sheetNumbers (sheetAt b)))
 room-for-every-sheet b numbers bs e h =
     let only = reads-only b bs e in
     rw (only .1) at (right-read (sheetAt b) numbers (only .0) (omega (arith, largest (sheetAt b) (only .0))) .0)
@@ -53,7 +55,7 @@ write-accepted l room e =
     (only .0, only .1, accepted .1)
 
 pub right-written : (s : Sheet) (sheet : List ℕ) → Right s → length (sheetBytes s) ≤ length sheet
-    → (writeAnswer (sheetNumbers s) (length sheet) ≡ record { refusal = 0; count = length (sheetBytes s) })
+    → (writeAnswer (sheetNumbers s) (length sheet) ≡ wrote (length (sheetBytes s)))
     × (bytesWritten (sheetNumbers s) sheet ≡ sheetBytes s ++ drop (length (sheetBytes s)) sheet)
 unfolding writeAnswer writeRefusal bytesWritten
 right-written s sheet r h = let back = writes-back s r in room-enough sheet (back .1) (ap sheetBytes (back .0)) h

@@ -10,9 +10,11 @@ use lib.ListN.{length, drop, length-append, length-drop}
 use lib.Seq.{take-append-seam, drop-append-seam, getD-drop, drop-drop}
 use Rattle.numbers.specs.Tables.{All}
 use Rattle.rules.specs.Rules.{pointNumbers}
-use Rattle.rules.proofs.Laws.{first-on, size-holds}
+use Rattle.rules.proofs.Refusals.{first-on}
+use Rattle.rules.proofs.Laws.{size-holds}
 use Rattle.sheet.specs.Sheet.{Target, Sheet, pathNumbers, sheetNumbers, RightPath, Right}
-use Rattle.sheet.specs.Writing.{numberAt, pathAt, pathEnd, pathsAt, sheetOf, pathRefusal, pathsRefusal, listRefusal}
+use Rattle.sheet.specs.NumberList.{numberAt, pathAt, pathEnd, pathsAt, sheetOf}
+use Rattle.sheet.specs.Writing.{pathRefusal, pathsRefusal, listRefusal}
 use Rattle.sheet.proofs.PathRules.{kept-rules, right-kept}
 use Rattle.sheet.proofs.Writing.{paths-end, listed-accepted}
 

@@ -5,10 +5,12 @@ use native.Mathlib.Omega.{arith}
 use lib.IntN.{ℤ, pos}
 use lib.ListN.{getD, drop}
 use lib.Seq.{drop-cons}
-use Rattle.rules.proofs.Laws.{limits-hold}
+use Rattle.rules.proofs.Laws.{limits-hold, accepted}
 use Rattle.sheet.specs.Sheet.{sheetNumbers, Right}
-use Rattle.sheet.specs.Writing.{numberAt, sheetOf, listRefusal}
-use Rattle.sheet.proofs.Writing.{accepted, two-numbers, count-paths, sheet-paths, Listed, listed}
+use Rattle.sheet.specs.NumberList.{numberAt, sheetOf}
+use Rattle.sheet.specs.Writing.{listRefusal}
+use Rattle.sheet.proofs.NumberList.{two-numbers, count-paths}
+use Rattle.sheet.proofs.Writing.{sheet-paths, Listed, listed}
 
 -- the three numbers before the paths are not below 0
 header : (l : List ℤ) → Listed l → l ≡ pos (numberAt l 0) ∷ pos (numberAt l 1) ∷ pos (numberAt l 2) ∷ drop 3 l

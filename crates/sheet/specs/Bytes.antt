@@ -15,6 +15,10 @@ pub data Short : ℤ → Type 0 where
   up : {n : ℕ} → n < 32768 → Short (pos n)
   down : {n : ℕ} → n < 32768 → Short (negsuc n)
 
+-- in so many bytes
+abbrev pub valueSize : ℕ
+valueSize = 2
+
 -- ---- stored: u16, u32, signed 16-bit
 
 abbrev pub le16 : ℕ → List ℕ
@@ -49,4 +53,4 @@ i16At b p = signed16 (u16At b p)
 -- n numbers one after another
 unfoldable pub valuesAt : List ℕ → ℕ → ℕ → List ℤ
 valuesAt b p zero = []
-valuesAt b p (suc n) = i16At b p ∷ valuesAt b (p + 2) n
+valuesAt b p (suc n) = i16At b p ∷ valuesAt b (p + valueSize) n

@@ -1,5 +1,8 @@
 pub mod Bytes
 pub mod Sheet
+pub mod Records
+pub mod NumberList
+pub mod PathRules
 pub mod Reading
 pub mod Writing
 pub mod Answer

@@ -2,12 +2,12 @@
 use mathlib.Core.Path.{_≡_}
 use mathlib.Core.Bool.{true}
 use mathlib.Core.List.{List, [], _∷_, _++_}
-use Prim.Native.Nat.{ℕ, _+_, _*_, _≤_}
+use Prim.Native.Nat.{ℕ, _+_, _*_, _/_, _≤_}
 use lib.IntN.{ℤ, pos}
 use lib.ListN.{length}
 use Rattle.numbers.specs.Tables.{All}
-use Rattle.rules.specs.Rules.{finest, isLevel, areLimits, isSize, arePoints, areChained}
-use Rattle.sheet.specs.Bytes.{le16, le32, valueBytes}
+use Rattle.rules.specs.Rules.{finest, reach, isLevel, areLimits, isSize, arePoints, areChained}
+use Rattle.sheet.specs.Bytes.{valueSize, le16, le32, valueBytes}
 
 -- one path of a sheet; points: x0, y0, x1, y1, ..
 pub record Target : Type 0 where
@@ -22,9 +22,16 @@ pub record Sheet : Type 0 where
 
 -- ---- its bytes: header, offsets, records
 
--- count, upper, lower and N offsets
+-- count, upper and lower
+abbrev pub leastBytes : ℕ
+leastBytes = 12
+
+abbrev pub offsetSize : ℕ
+offsetSize = 4
+
+-- and N offsets
 abbrev pub headSize : ℕ → ℕ
-headSize N = 12 + 4 * N
+headSize N = leastBytes + offsetSize * N
 
 -- segments, start level, and x and y of each point
 unfoldable pub recordBytes : Target → List ℕ
@@ -46,6 +53,16 @@ sheetBytes s =
 
 -- ---- its number list
 
+-- count, upper and lower before the paths; segments and start level before a path's points, in a list and in a record
+abbrev pub listHead : ℕ
+listHead = 3
+
+abbrev pub pathHead : ℕ
+pathHead = 2
+
+abbrev pub recordHead : ℕ
+recordHead = valueSize * pathHead
+
 unfoldable pub pathNumbers : List Target → List ℤ
 pathNumbers [] = []
 pathNumbers (p ∷ ps) = pos (p .segments) ∷ pos (p .level) ∷ (p .points ++ pathNumbers ps)
@@ -60,7 +77,7 @@ pub record RightPath (p : Target) : Type 0 where
   pub size : isSize (p .segments) (length (p .points)) ≡ true
   pub level : isLevel finest (p .level) ≡ true
   pub points : arePoints (p .points) ≡ true
-  pub chained : areChained (p .points) ≡ true
+  pub chained : areChained reach (p .points) ≡ true
 
 pub record Right (s : Sheet) : Type 0 where
   pub few : length (s .paths) ≤ 1024
@@ -68,9 +85,12 @@ pub record Right (s : Sheet) : Type 0 where
   pub paths : All RightPath (s .paths)
   pub fits : length (sheetBytes s) ≤ 32768
 
--- the same bounds as the tests know them
+-- the same bounds as the tests know them, and numbers enough for every sheet's list
 abbrev pub mostPaths : ℕ
 mostPaths = 1024
 
 abbrev pub mostBytes : ℕ
 mostBytes = 32768
+
+abbrev pub mostNumbers : ℕ
+mostNumbers = mostBytes / valueSize

@@ -38,15 +38,15 @@ fn request() -> bool {
         return false;
     }
     if code == 1 {
-        reading(room, size);
+        read_request(room, size);
     } else {
-        writing(room, size);
+        write_request(room, size);
     }
     true
 }
 
 // The lent number list holds -7 in every place before the call, the lent sheet 7.
-fn reading(room: usize, size: usize)
+fn read_request(room: usize, size: usize)
     requires { ⌜ (room ≤ 33000) × (size ≤ 33000) ⌝ }
 {
     let mut bytes = byte_buffer();
@@ -54,7 +54,7 @@ fn reading(room: usize, size: usize)
     run_read(&mut bytes, size, &mut numbers, room);
 }
 
-fn writing(room: usize, size: usize)
+fn write_request(room: usize, size: usize)
     requires { ⌜ (room ≤ 33000) × (size ≤ 33000) ⌝ }
 {
     let mut numbers = number_buffer();
@@ -66,7 +66,7 @@ fn run_read(bytes: &mut [u8], size: usize, numbers: &mut [i32], room: usize)
     requires { ⌜ (size ≤ length (now bytes)) × (room ≤ length (now numbers)) ⌝ }
 {
     io::read_full(STDIN_FILENO, &mut bytes[..size]);
-    print_answer(sheet::read(&bytes[..size], &mut numbers[..room]));
+    print_answer(reading::read(&bytes[..size], &mut numbers[..room]));
     print_numbers(&numbers[..room]);
 }
 
@@ -74,7 +74,7 @@ fn run_write(numbers: &mut [i32], size: usize, bytes: &mut [u8], room: usize)
     requires { ⌜ (size ≤ length (now numbers)) × (room ≤ length (now bytes)) ⌝ }
 {
     take_numbers(&mut numbers[..size]);
-    print_answer(sheet::write(&numbers[..size], &mut bytes[..room]));
+    print_answer(writing::write(&numbers[..size], &mut bytes[..room]));
     print_bytes(&bytes[..room]);
 }
 

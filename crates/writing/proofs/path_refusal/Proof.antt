@@ -1,0 +1,145 @@
+-- Each return is one line of the table `pathRules`, by the tests that led there.
+use mathlib.Core.Path.{_≡_, sym, ap, ap₂, _∙_}
+use mathlib.Core.Bool.{true}
+use mathlib.Core.List.{List}
+use Prim.Native.Nat.{ℕ, _+_, _-_}
+use native.Mathlib.Omega.{arith}
+use borrow.Author.Needs.{needs}
+use borrow.Author.Tests.{le-leb, lt-leb}
+use lib.Dec.{leb}
+use lib.IntN.{ℤ}
+use lib.ListN.{length, take, drop}
+use Rattle.rules.specs.Rules.{finest, reach, pointNumbers, headRefusal, pointsRefusal}
+use Rattle.sheet.specs.Sheet.{pathHead}
+use Rattle.sheet.specs.NumberList.{numberAt, pathAt, pathEnd}
+use Rattle.sheet.specs.Writing.{pathRefusal}
+use Rattle.sheet.proofs.PathRules.{refuses-no-head, refuses-by-head, refuses-cut, refuses-by-points}
+use Rattle.writing.proofs.path_refusal.Statement.{statement}
+use Rattle.writing.proofs.path_refusal.Tie as tie
+
+add-if1 : tie.Need-add-if1
+add-if1 c = search needs
+
+returns : tie.Need-returns
+unfolding pathRefusal
+returns c = sym (refuses-no-head 17 _ _ _ (lt-leb _ _ (c .if1 .taken)))
+
+-- ---- the segments and the level
+
+number-at-requires : tie.Need-number-at-requires
+number-at-requires c κs = search needs
+
+add-number-at : tie.Need-add-number-at
+add-number-at c = search needs
+
+number-at-requires-2 : tie.Need-number-at-requires-2
+number-at-requires-2 c κs = search needs
+
+head-refusal-requires : tie.Need-head-refusal-requires
+head-refusal-requires c κs = search needs
+
+abbrev list : tie.Else1 → List ℤ
+list c = c .before .args .numbers .now
+
+abbrev index : tie.Else1 → ℕ
+index c = c .before .args .at
+
+begins : (c : tie.Else1) → leb (index c + pathHead) (length (list c)) ≡ true
+begins c = le-leb _ _ (c .if1 .left)
+
+abbrev from-head : tie.After-head-refusal → tie.Else1
+from-head c = c .before .before .before
+
+head-asked : (c : tie.After-head-refusal)
+    → let d = from-head c in
+    c .head-refusal .result ≡ headRefusal finest (numberAt (list d) (index d)) (numberAt (list d) (index d + 1))
+head-asked c = c .head-refusal .ensures ∙ ap₂ (headRefusal finest) (c .before .before .number-at .ensures) (c .before .number-at2 .ensures)
+
+returns-2 : tie.Need-returns-2
+unfolding pathRefusal pathAt
+returns-2 c =
+    let asked = head-asked (c .before) in
+    asked ∙ sym (refuses-by-head 17 _ _ _ (begins (from-head (c .before))) (λ z. c .if2 .taken (asked ∙ z)))
+
+head : (c : tie.Else2)
+    → let d = from-head (c .before) in headRefusal finest (numberAt (list d) (index d)) (numberAt (list d) (index d + 1)) ≡ 0
+head c = sym (head-asked (c .before)) ∙ c .if2 .left
+
+-- ---- where the path ends
+
+add-end : tie.Need-add-end
+add-end c = search needs
+
+point-numbers-requires : tie.Need-point-numbers-requires
+point-numbers-requires c κs = search needs
+
+add-end-2 : tie.Need-add-end-2
+add-end-2 c = search needs
+
+abbrev from-end : tie.After-point-numbers → tie.Else1
+from-end c = from-head (c .before .before)
+
+end : (c : tie.After-point-numbers)
+    → let d = from-end c in index d + pathHead + c .point-numbers .result ≡ pathEnd (list d) (index d)
+end c = omega (arith, c .point-numbers .ensures, c .before .before .before .before .number-at .ensures)
+
+returns-3 : tie.Need-returns-3
+unfolding pathRefusal pathAt
+returns-3 c =
+    let d = from-end (c .before) in
+    let cut = lt-leb (pathEnd (list d) (index d)) (length (list d)) (omega (arith, end (c .before), c .if3 .taken)) in
+    sym (refuses-cut 17 _ _ (pathAt (list d) (index d)) (begins d) (head (c .before .before)) cut)
+
+-- ---- the points
+
+add-points-refusal : tie.Need-add-points-refusal
+add-points-refusal c = search needs
+
+mul-points-refusal : tie.Need-mul-points-refusal
+mul-points-refusal c = search needs
+
+sub-points-refusal : tie.Need-sub-points-refusal
+sub-points-refusal c = search needs
+
+part-points-refusal-start : tie.Need-part-points-refusal-start
+part-points-refusal-start c = search needs
+
+part-points-refusal-end : tie.Need-part-points-refusal-end
+part-points-refusal-end c = search needs
+
+points-refusal-requires : tie.Need-points-refusal-requires
+points-refusal-requires c κs = search needs
+
+returns-4 : tie.Need-returns-4
+unfolding pathRefusal pathAt
+returns-4 c =
+    let e = c .before .before .before in
+    let d = from-end e in
+    let whole = le-leb (pathEnd (list d) (index d)) (length (list d)) (omega (arith, end e, c .before .before .if3 .left)) in
+    let n : index d + pathHead + e .point-numbers .result - (index d + pathHead) ≡ pointNumbers (numberAt (list d) (index d)) = omega (arith, end e) in
+    c .points-refusal .ensures
+    ∙ ap (λ (k : ℕ). pointsRefusal reach (take k (drop (index d + pathHead) (list d)))) n
+    ∙ sym (refuses-by-points 17 _ _ (pathAt (list d) (index d)) (begins d) (head (e .before)) whole)
+
+pub path-refusal-spec : {M : Type 1} → statement M
+path-refusal-spec =
+    tie.close
+    (tie.spec
+    add-if1
+    returns
+    number-at-requires
+    add-number-at
+    number-at-requires-2
+    head-refusal-requires
+    returns-2
+    add-end
+    point-numbers-requires
+    add-end-2
+    returns-3
+    add-points-refusal
+    mul-points-refusal
+    sub-points-refusal
+    part-points-refusal-start
+    part-points-refusal-end
+    points-refusal-requires
+    returns-4)
