@@ -13,18 +13,16 @@ from pathlib import Path
 HERE = Path(__file__).resolve().parent
 sys.path.insert(0, str(HERE.parent / "tests"))
 
-from model.sheet import sheet_bytes  # noqa: E402
-
-UPPER, LOWER = 65_536, 32_768       # the limits: one unit and half a unit
+import above  # noqa: E402, F401
+import kept  # noqa: E402
+from document_cases import SHEET  # noqa: E402
+from makers import point, sheet  # noqa: E402
+from model.points import flat  # noqa: E402
 
 
 def path(level, start, *segments):
     """The model's path: its level and all its points in order."""
-    return level, [start] + [point for segment in segments for point in segment]
-
-
-def sheet(*paths):
-    return sheet_bytes(UPPER, LOWER, paths)
+    return level, [point(*values) for values in [start, *flat(segments)]]
 
 
 # The word "la": the lines of the school's ruled paper are at y 0 (top of the
@@ -100,13 +98,6 @@ CORNERS = path(
     ((8, 76), (4, 80), (0, 84)),
 )
 
-# Document 01's example: a straight line of three units, at constant speed.
-
-LINE = path(
-    0, (0, 0),
-    ((1, 0), (2, 0), (3, 0)),
-)
-
 # Refused 2: the first two control points are 683 apart in x.
 
 TOO_FAR = path(
@@ -120,38 +111,10 @@ SHEETS = {
     "slow-start.sheet": sheet(SLOW_START),
     "paths.sheet": sheet(WAVE, HEART, EIGHT, CORNERS),
     "empty.sheet": sheet(),
-    "document.sheet": sheet(LINE),
+    "document.sheet": SHEET,
     "refused.sheet": sheet(TOO_FAR),
 }
 
-
-def write():
-    for name, data in SHEETS.items():
-        (HERE / name).write_bytes(data)
-        print(f"{name}: {len(data)} bytes")
-
-
-def is_same(name):
-    file = HERE / name
-    return file.is_file() and file.read_bytes() == SHEETS[name]
-
-
-def check():
-    """How many of the files are missing or others than those made here."""
-    wrong = [name for name in SHEETS if not is_same(name)]
-    for name in wrong:
-        print(f"{name} is not what make.py makes")
-    print(f"{len(SHEETS) - len(wrong)} passed, {len(wrong)} failed")
-    return len(wrong)
-
-
-def main(arguments):
-    if arguments == []:
-        return write()
-    if arguments == ["--check"]:
-        return 1 if check() else 0
-    return __doc__
-
-
 if __name__ == "__main__":
-    sys.exit(main(sys.argv[1:]))
+    files = {HERE / name: data for name, data in SHEETS.items()}
+    sys.exit(kept.run(files, sys.argv[1:], __doc__))

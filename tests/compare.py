@@ -1,7 +1,7 @@
 """The differential test: the programs `probe` and `listing` and the model.
 
-    python3 compare.py [--seed SEED] [--number NUMBER] [--sheets NUMBER]
-                       [--root FOLDER]
+    python3 tests/compare.py [--seed SEED] [--number NUMBER]
+                             [--sheets NUMBER] [--root FOLDER]
 
 Requests made by chance go to the probe, a batch to each run, and every line
 that it answers has to be the model's. Sheets go to the listing, one to each
@@ -11,17 +11,20 @@ not in target/bin are built first. FOLDER is the repository they belong to.
 It ends with "N passed, N failed", and with status 0 only if none failed.
 """
 import argparse
-import struct
 import sys
 from collections import Counter
 from itertools import zip_longest
 
+from above import ROOT
 from document_cases import SHEET
-from listing_sheets import LONGEST, make_sheets
+from listing_cases import TOO_LONG, make_sheets
+from makers import LONGEST
 from model.listing import listing
-from probe_model import NAMES, OUTCOMES, answered, missing
+from probe_model import OUTCOMES, answered, missing
+from probe_protocol import in_words
 from probe_requests import limit_requests, make_batch
-from programs import REPOSITORY, build_missing, run_program
+from programs import build_missing, run_program
+from tally import Tally
 
 BATCH = 1_000
 PROGRESS = 5_000        # requests from one line of progress to the next
@@ -30,27 +33,24 @@ SHOWN = 5               # differences that are shown
 CUT = 400               # characters of each that are shown
 
 
-class Report:
-    """What passed and failed so far; the first failures are shown."""
+class Report(Tally):
+    """The model's answers beside the program's; some failures are shown."""
 
-    def __init__(self):
-        self.passed, self.failed = 0, 0
+    def equal(self, what, model, program):
+        self.holds(what, model == program, (model, program))
 
-    def check(self, what, model, program):
-        if model == program:
-            self.passed += 1
-            return
-        self.failed += 1
+    def tell(self, what, seen):
         if self.failed <= SHOWN:
+            model, program = seen
             place = first_difference(model, program)
             print(f"DIFFERENCE at character {place}")
             print(f"  of      {cut(what, 0)}")
             print(f"  model   {cut(model, place)}")
             print(f"  program {cut(program, place)}", flush=True)
 
-    def check_end(self, what, ended):
+    def good_end(self, what, ended):
         """Exit status 0, and nothing on standard error."""
-        self.check("the end of " + what, str((0, "")),
+        self.equal("the end of " + what, str((0, "")),
                    str((ended.status, ended.errors)))
 
 
@@ -74,15 +74,6 @@ def in_pieces(data):
 
 # The probe
 
-def request_text(request):
-    """A request in words, for whoever looks at a difference."""
-    words = [word for word, in struct.iter_unpack(
-        "<i", request[:len(request) // 4 * 4])]
-    name = NAMES.get(words[0] if words else None, "?")
-    rest = request[len(words) * 4:].hex()
-    return " ".join([name, *map(str, words), rest]).rstrip()
-
-
 def compare_batch(report, requests, root):
     """One run of the probe; what came out of each request by the model."""
     ended = run_program("probe", [b"".join(requests)], root)
@@ -90,15 +81,15 @@ def compare_batch(report, requests, root):
 
 
 def compare_answers(report, requests, ended):
-    report.check_end("the probe", ended)
+    report.good_end("the probe", ended)
     lines = ended.output.split("\n")
-    report.check("what follows the probe's last line",
+    report.equal("what follows the probe's last line",
                  str([""]), str(lines[len(requests):]))
     outcomes = []
     for request, line in zip_longest(requests, lines[:len(requests)],
                                      fillvalue="no line"):
         model_line, outcome = answered(request)
-        report.check(request_text(request), model_line, line)
+        report.equal(in_words(request), model_line, line)
         outcomes.append(outcome)
     return outcomes
 
@@ -123,7 +114,7 @@ def compare_requests(report, seed, number, root):
             print(f"{sent} requests, {report.failed} failed", flush=True)
     show_tally(tally)
     if number >= ENOUGH:
-        report.check("outcomes that no request had", "[]",
+        report.equal("outcomes that no request had", "[]",
                      str(missing(tally)))
 
 
@@ -139,15 +130,15 @@ def show_tally(tally):
 def compare_sheet(report, data, pieces, root):
     ended = run_program("listing", pieces, root)
     what = f"sheet of {len(data)} bytes {data.hex()}"
-    report.check_end(what, ended)
-    report.check(what, listing(data), ended.output)
+    report.good_end(what, ended)
+    report.equal(what, listing(data), ended.output)
 
 
 def compare_sheets(report, seed, number, root):
     sheets = make_sheets(seed, number)
     for data in sheets:
         compare_sheet(report, data, [data], root)
-    for data in (SHEET, LONGEST, LONGEST + bytes(9)):
+    for data in (SHEET, LONGEST, TOO_LONG):
         compare_sheet(report, data, in_pieces(data), root)
     print(f"{len(sheets)} sheets, {report.failed} failed", flush=True)
 
@@ -160,7 +151,7 @@ def main():
                          help="requests for the probe; 0: it is not run")
     options.add_argument("--sheets", type=int, default=320,
                          help="sheets for the listing; 0: it is not run")
-    options.add_argument("--root", default=REPOSITORY,
+    options.add_argument("--root", default=ROOT,
                          help="the repository whose programs are run")
     chosen = options.parse_args()
     report = Report()
@@ -170,8 +161,7 @@ def main():
     if chosen.sheets > 0:
         build_missing(["listing"], chosen.root)
         compare_sheets(report, chosen.seed, chosen.sheets, chosen.root)
-    print(f"{report.passed} passed, {report.failed} failed")
-    sys.exit(report.failed != 0)
+    sys.exit(report.end())
 
 
 if __name__ == "__main__":

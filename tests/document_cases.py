@@ -1,10 +1,13 @@
 """Document 01's own cases: A to M as requests for the probe, and its sheet.
 
 CASES has (letter, name of the request, argument words, answer line). The
-cases speak of one coordinate, x here; the other is 0 throughout. Every number
+cases speak of one coordinate, x here; the others are 0 throughout. Every number
 of an answer is the document's, or reckoned by hand where it gives none: the
 lengths of B, K and L, the start and the step of M.
 """
+import makers
+from model.points import flat
+from probe_protocol import REGISTER_WORDS, line
 
 SHEET = bytes.fromhex("01000000 00000100 00800000 10000000 01000000"
                       "00000000 01000000 02000000 03000000")
@@ -18,41 +21,44 @@ path 0 points 5 length 3000
 2048 3 0
 """
 
+SHEET_NUMBERS = [1, 65_536, 32_768, 1, 0, 0, 0, 1, 0, 2, 0, 3, 0]
+
 LIMITS = [65_536, 32_768]
 
 
 def on_x(*values):
-    """x of each point; y is 0."""
-    return [coordinate for value in values for coordinate in (value, 0)]
+    """The numbers of points with these x."""
+    return flat(makers.on_x(*values))
 
 
-def line(*numbers):
-    return " ".join(str(number) for number in numbers)
-
-
-def drawing(level, q, a, b, c, d):
-    return [level, q, a, b, c, d, 0, 0, 0, 0]
+def drawing(level, q, *registers):
+    """A drawing with these registers of x."""
+    others = REGISTER_WORDS - len(registers)
+    return [level, q, *registers, *[0] * others]
 
 
 def drawn(letter, level, xs, positions, drawn_xs, length):
     """A path of one segment, drawn with as much room as it needs."""
-    entries = [number for position, x in zip(positions, drawn_xs)
-               for number in (position, x, 0)]
+    entries = flat([position, *on_x(x)]
+                   for position, x in zip(positions, drawn_xs))
     words = [len(entries), 1, level, *LIMITS, *on_x(*xs)]
-    return letter, "draw", words, line(0, len(positions), length, *entries)
+    return letter, "draw", words, line([0, len(positions), length, *entries])
+
+
+def start(letter, level, xs, refusal, numbers):
+    return letter, "start", [*on_x(*xs), level], line([refusal, *numbers])
 
 
 def started(letter, level, xs, numbers):
-    return letter, "start", [*on_x(*xs), level], line(0, *numbers)
+    return start(letter, level, xs, 0, numbers)
 
 
 def refused_start(letter, level, xs, refusal):
-    words = [*on_x(*xs), level]
-    return letter, "start", words, line(refusal, *drawing(0, 0, 0, 0, 0, 0))
+    return start(letter, level, xs, refusal, drawing(0, 0))
 
 
-def operated(letter, name, before, after):
-    return letter, name, before, line(0, *after)
+def operated(letter, name, before, after, refusal=0):
+    return letter, name, before, line([refusal, *after])
 
 
 FIVE = [0, 512, 1024, 1536, 2048]
@@ -98,5 +104,5 @@ CASES = [
           [0, 1, 2, 3, 3, 4, 5, 5, 6, 7, 7, 8], 8_000),
     started("M", 1, [0, 0, 0, 8], C_HALVED),
     operated("M", "step", C_HALVED, M_STEPPED),
-    ("M", "double", M_STEPPED, line(8, *M_STEPPED)),
+    operated("M", "double", M_STEPPED, M_STEPPED, refusal=8),
 ]

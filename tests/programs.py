@@ -13,7 +13,8 @@ import time
 from collections import namedtuple
 from pathlib import Path
 
-REPOSITORY = Path(__file__).resolve().parent.parent
+from above import ROOT
+
 PAUSE = 0.05            # seconds
 
 Ended = namedtuple("Ended", "status output errors")
@@ -37,7 +38,7 @@ def first_folder(*folders):
     return folders[-1]
 
 
-def program_command(name, root=REPOSITORY):
+def program_command(name, root=ROOT):
     """The words that run target/bin/NAME of the repository at root."""
     kit = kit_folder()
     tools = first_folder(kit / "on" / platform.machine() / "toolchain",
@@ -54,7 +55,7 @@ def program_file(name, root):
     return Path(root) / "target" / "bin" / name
 
 
-def build_missing(names, root=REPOSITORY):
+def build_missing(names, root=ROOT):
     """Has rt prove and link the programs that are not there yet."""
     missing = [name for name in names if not program_file(name, root).exists()]
     if missing:
@@ -74,7 +75,7 @@ def send(running, piece):
     time.sleep(PAUSE)
 
 
-def run_program(name, pieces, root=REPOSITORY):
+def run_program(name, pieces, root=ROOT):
     """Runs a program to its end; its input comes in these pieces of bytes."""
     settings = {key: value for key, value in os.environ.items()
                 if not key.startswith("QEMU_")}

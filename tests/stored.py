@@ -1,25 +1,25 @@
 """The stored files of the gate: what its programs read, and have to write.
 
-    python3 stored.py           writes them
-    python3 stored.py --check   compares them with what would be written
+    python3 tests/stored.py           writes them
+    python3 tests/stored.py --check   compares them with what would be written
 
 `rt` gives a program the file stdin of its folder and compares what it writes
 with the file stdout.
 """
 import random
-import struct
 import sys
 from collections import Counter
-from pathlib import Path
 
+import kept
+from above import ROOT
 from document_cases import CASES, LISTING, SHEET
-from listing_sheets import gate_sheets
+from listing_cases import gate_sheets
 from model.listing import listing
 from probe_model import answered, missing
-from probe_requests import limit_requests, make_requests, request
-from sheet_vectors import make_vectors
+from probe_protocol import packed, request
+from probe_requests import limit_requests, make_requests
+from sheet_cases import make_cases
 
-CRATES = Path(__file__).resolve().parent.parent / "crates"
 EACH = 10               # requests of each outcome
 SMALL = 5_000           # bytes of a request and its answer
 TRIED = 4_000           # requests that they are picked from
@@ -69,9 +69,9 @@ def probe_files():
 
 # The other programs
 
-def vectors_files():
-    vectors = make_vectors()
-    return b"".join(vectors.requests), joined(vectors.lines)
+def sheet_cases_files():
+    cases = make_cases()
+    return b"".join(cases.requests), joined(cases.lines)
 
 
 def listing_files():
@@ -79,53 +79,21 @@ def listing_files():
     return SHEET, LISTING.encode()
 
 
-def listings_files():
+def listing_cases_files():
     """Each sheet after its length."""
     sheets = gate_sheets()
-    lengths = [struct.pack("<I", len(data)) for data in sheets]
-    stdin = b"".join(length + data for length, data in zip(lengths, sheets))
-    return stdin, "".join(listing(data) for data in sheets).encode()
+    stdin = b"".join(packed([len(data)]) + data for data in sheets)
+    return stdin, "".join(map(listing, sheets)).encode()
 
 
 def stored_files():
     """Each file's path and contents."""
-    programs = {"vectors": vectors_files, "probe": probe_files,
-                "listing": listing_files, "listings": listings_files}
-    for program, make in programs.items():
-        for name, contents in zip(("stdin", "stdout"), make()):
-            yield CRATES / program / name, contents
-
-
-# Writing and comparing them
-
-def write_all():
-    for path, contents in stored_files():
-        path.parent.mkdir(exist_ok=True)
-        path.write_bytes(contents)
-        print(f"{len(contents):7} bytes  {path.parent.name}/{path.name}")
-
-
-def check_all():
-    """Whether every file is there and as it should be."""
-    passed, failed = 0, 0
-    for path, contents in stored_files():
-        if path.is_file() and path.read_bytes() == contents:
-            passed += 1
-        else:
-            failed += 1
-            print(f"{path.parent.name}/{path.name} is not what the model says")
-    print(f"{passed} passed, {failed} failed")
-    return failed == 0
-
-
-def main(arguments):
-    if arguments == []:
-        write_all()
-    elif arguments == ["--check"]:
-        sys.exit(not check_all())
-    else:
-        sys.exit("usage: stored.py [--check]")
+    programs = {"sheet_cases": sheet_cases_files, "probe": probe_files,
+                "listing": listing_files, "listing_cases": listing_cases_files}
+    return {ROOT / "crates" / program / name: contents
+            for program, make in programs.items()
+            for name, contents in zip(("stdin", "stdout"), make())}
 
 
 if __name__ == "__main__":
-    main(sys.argv[1:])
+    sys.exit(kept.run(stored_files(), sys.argv[1:], __doc__))

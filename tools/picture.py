@@ -15,16 +15,12 @@ import sys
 from pathlib import Path
 from xml.sax.saxutils import escape
 
-sys.path.insert(0, str(Path(__file__).resolve().parent.parent / "tests"))
+from frame import ABOVE, BELOW, Frame, between, read_drawn
+from svg import AXIS, CURVE, GRID, HANDLE, INK, PAPER, SCALE, SOFT, colour, line, number, text
 
-from model.sheet import read_paths  # noqa: E402
-
-WIDEST, HIGHEST = 900, 640          # the drawing's largest size on the screen
-NARROWEST = 560                     # room for the text
-LARGEST_SCALE = 40                  # screen units for a unit of the sheet
 GRID_SCALE = 5                      # from here on the unit grid is drawn
-LEFT, ABOVE, RIGHT, BELOW = 48, 74, 28, 30
 LEGEND, LINE = 40, 18
+SHADES = 64
 FROM_START = 24                     # from a path's start to its number
 ENOUGH_ROOM = 18                    # from that to the nearest dot
 EIGHTH = complex(math.sqrt(0.5), math.sqrt(0.5))
@@ -35,124 +31,6 @@ MOST_HINTS = 4_000                  # up to here a dot tells its entry under the
 MOST_NEAR = 4_000                   # dots that the labels keep away from
 MOST_LABELS = 60
 MOST_LINES = 8                      # paths that have a line of text
-
-PAPER, INK, SOFT, GRID, AXIS = "#fdfdfb", "#22252b", "#6b7280", "#ececea", "#d6d6d2"
-CURVE, HANDLE = "#8b95a5", "#b4b8bf"
-SHADES = 64
-SCALE = [(38, 52, 160), (126, 34, 168), (204, 65, 112), (240, 138, 48)]
-
-
-# What is drawn
-
-class Drawn:
-    """A path: its level and control points of the sheet, its text and entries of the listing."""
-
-    def __init__(self, level, points, heading):
-        words = heading.split()
-        self.level, self.points = level, points
-        self.index, self.count, self.length = (int(words[i]) for i in (1, 3, 5))
-        self.entries = []
-
-    def segments(self):
-        return len(self.points) // 3
-
-    def end(self):
-        return self.entries[-1][0]
-
-    def direction(self):
-        """The way in which the path sets out: a complex number of size 1."""
-        start = complex(*self.points[0])
-        moves = (complex(*point) - start for point in self.points)
-        move = next(filter(None, moves), 1)
-        return move / abs(move)
-
-
-def read_drawn(sheet, listing):
-    """The paths, from the sheet's bytes and the listing's text."""
-    _, _, paths = read_paths(sheet)
-    drawn = []
-    for row in listing.splitlines()[1:]:
-        if row.startswith("path"):
-            drawn.append(Drawn(*paths[len(drawn)], row))
-        else:
-            drawn[-1].entries.append(tuple(int(word) for word in row.split()))
-    return drawn
-
-
-# Numbers, colours, elements
-
-def number(value):
-    digits = f"{value:.2f}".rstrip("0").rstrip(".")
-    return "0" if digits == "-0" else digits
-
-
-def thousandths(value):
-    return f"{value // 1000}.{value % 1000:03d}"
-
-
-def many(count, word):
-    return f"{count} {word}" if count == 1 else f"{count} {word}s"
-
-
-def colour(part):
-    """The colour scale at a part from 0 to 1."""
-    place = part * (len(SCALE) - 1)
-    k = min(int(place), len(SCALE) - 2)
-    mixed = (round(a + (b - a) * (place - k)) for a, b in zip(SCALE[k], SCALE[k + 1]))
-    return "#%02x%02x%02x" % tuple(mixed)
-
-
-def text(x, y, words, size=13, fill=INK, anchor="start", more=""):
-    return (f'<text x="{number(x)}" y="{number(y)}" font-size="{size}" fill="{fill}" '
-            f'text-anchor="{anchor}"{more}>{escape(words)}</text>')
-
-
-def line(x1, y1, x2, y2, style):
-    return f'<path d="M{number(x1)} {number(y1)}L{number(x2)} {number(y2)}" {style}/>'
-
-
-# Where it stands on the screen
-
-class Frame:
-    """The box of the sheet that is shown, and its scale."""
-
-    def __init__(self, drawn):
-        shown = [point for path in drawn for point in path.points]
-        shown += [(x, y) for path in drawn for _, x, y in path.entries]
-        xs, ys = zip(*(shown or [(0, 0), (12, 6)]))
-        span = max(max(xs) - min(xs), max(ys) - min(ys))
-        edge = 1.5 + span // 16
-        self.left, self.top = min(xs) - edge, min(ys) - edge
-        self.wide, self.high = max(xs) - min(xs) + 2 * edge, max(ys) - min(ys) + 2 * edge
-        self.scale = min(WIDEST / self.wide, HIGHEST / self.high, LARGEST_SCALE)
-        self.width = max(self.wide * self.scale + LEFT + RIGHT, NARROWEST)
-        self.indent = (self.width - self.wide * self.scale + LEFT - RIGHT) / 2
-        self.bottom = ABOVE + self.high * self.scale
-        self.dot = min(max(0.36 * self.scale, 1.2), 7)
-
-    def x(self, x):
-        return self.indent + (x - self.left) * self.scale
-
-    def y(self, y):
-        return ABOVE + (y - self.top) * self.scale
-
-    def place(self, x, y):
-        """A point of the sheet on the screen, as a complex number."""
-        return complex(self.x(x), self.y(y))
-
-    def units(self, pixels):
-        """A length on the screen in units of the sheet."""
-        return number(pixels / self.scale)
-
-    def group(self):
-        """The large group: it has the sheet's own coordinates."""
-        move = f"{number(self.indent - self.left * self.scale)} {number(ABOVE - self.top * self.scale)}"
-        return f'<g transform="translate({move}) scale({self.scale:.6g})" fill="none">'
-
-
-def between(low, high, gap):
-    """The multiples of gap from low to high."""
-    return range(math.ceil(low / gap) * gap, math.floor(high / gap) * gap + 1, gap)
 
 
 # The layers, from the bottom up
@@ -187,7 +65,7 @@ def ticks(frame):
 
 
 def joined(points):
-    return " ".join(f"{x} {y}" for x, y in points)
+    return " ".join(f"{point.x} {point.y}" for point in points)
 
 
 def polygon(path):
@@ -199,15 +77,15 @@ def curve(path):
 
 
 def dot(entry, radius, hint):
-    position, x, y = entry
-    shape = f'<circle cx="{x}" cy="{y}" r="{radius}"'
-    return f"{shape}><title>{position}: {x}, {y}</title></circle>" if hint else f"{shape}/>"
+    shape = f'<circle cx="{entry.x}" cy="{entry.y}" r="{radius}"'
+    position, *point = entry
+    return f"{shape}><title>{position}: {', '.join(map(str, point))}</title></circle>" if hint else f"{shape}/>"
 
 
 def dots(path, every, radius, hint):
     """Every so many entries, in groups of one colour."""
     def shade(entry):
-        return entry[0] * (SHADES - 1) // path.end()
+        return entry.position * (SHADES - 1) // path.end()
 
     parts = [f'<g class="entries" id="path{path.index}">']
     for key, entries in itertools.groupby(path.entries[::every], shade):
@@ -228,20 +106,21 @@ def free_way(path, start, crowd):
 
 def badge(path, frame, crowd):
     """The path's number beside its start, and an arrow head from it to the start."""
-    start = frame.place(*path.points[0])
+    start = frame.place(path.points[0])
     way = free_way(path, start, crowd)
     label = start + FROM_START * way
     crowd.append(label)
-    arrow = (start + corner * way for corner in (6, 15 + 5j, 15 - 5j))
+    corners = (start + corner * way for corner in (6, 15 + 5j, 15 - 5j))
+    arrow = " ".join(f"{number(z.real)} {number(z.imag)}" for z in corners)
     return [
-        f'<path d="M{joined((number(z.real), number(z.imag)) for z in arrow)}Z" fill="{colour(0)}"/>',
+        f'<path d="M{arrow}Z" fill="{colour(0)}"/>',
         f'<circle cx="{number(label.real)}" cy="{number(label.imag)}" r="9" fill="{PAPER}" stroke="{colour(0)}" stroke-width="1.4"/>',
         text(label.real, label.imag + 4, str(path.index), 11, colour(0), "middle", ' font-weight="bold"'),
     ]
 
 
 def badges(drawn, frame):
-    seen = [frame.place(x, y) for path in drawn for _, x, y in path.entries]
+    seen = [frame.place(entry) for path in drawn for entry in path.entries]
     crowd = seen[::1 + len(seen) // MOST_NEAR]
     return [part for path in drawn[:MOST_LABELS] for part in badge(path, frame, crowd)]
 
@@ -258,6 +137,14 @@ def drawing(drawn, frame, every):
 
 
 # The text
+
+def thousandths(value):
+    return f"{value // 1000}.{value % 1000:03d}"
+
+
+def many(count, word):
+    return f"{count} {word}" if count == 1 else f"{count} {word}s"
+
 
 def title(drawn):
     if not drawn:

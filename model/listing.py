@@ -1,13 +1,13 @@
 """The model's listing: the text that the listing program prints of a sheet."""
 from model.path import length, path_entries
-from model.rules import Refused
+from model.rules import refusal_or
 from model.sheet import read_paths
 
 
 def path_lines(index, entries):
     yield f"path {index} points {len(entries)} length {length(entries)}"
-    for position, x, y in entries:
-        yield f"{position} {x} {y}"
+    for entry in entries:
+        yield " ".join(map(str, entry))
 
 
 def sheet_lines(upper, lower, paths):
@@ -18,8 +18,6 @@ def sheet_lines(upper, lower, paths):
 
 def listing(data):
     """The text of a sheet's bytes; each line ends in a line feed."""
-    try:
-        lines = sheet_lines(*read_paths(data))
-    except Refused as refused:
-        lines = [f"refused {refused.args[0]}"]
+    refusal, parts = refusal_or(None, read_paths, data)
+    lines = [f"refused {refusal}"] if refusal else sheet_lines(*parts)
     return "".join(line + "\n" for line in lines)

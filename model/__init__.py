@@ -4,6 +4,8 @@ Written from document 01 alone: it knows nothing of the library's code, and
 it follows the document's words in their order. Numbers are Python's whole
 numbers, which have no end, so nothing here can wrap round or be cut.
 
+    constants the document's numbers, each named once
+    points    points, and the numbers that they are written as
     rules     refusals, and the rules that several parts share
     drawing   the exact curve, the registers and their operations
     path      the point list of a path, and its length

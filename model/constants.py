@@ -1,0 +1,24 @@
+"""The document's numbers, each named once."""
+
+# Points, and entries of a list
+
+COORDINATES = "x", "y"              # of a point, in their order
+POINT_NUMBERS = len(COORDINATES)
+ENTRY_NUMBERS = 1 + POINT_NUMBERS   # the position, and then the point
+LOWEST, HIGHEST = -16_384, 16_383   # a coordinate
+FARTHEST = 682                      # between neighbours, in each coordinate
+
+# Drawings
+
+FINEST = 11                         # the finest level
+END = 2**FINEST                     # the last position of a segment
+LEAST, MOST = -2**31, 2**31 - 1     # a register: a signed 32-bit number
+ONE_UNIT = 65_536                   # registers and limits are in these parts
+STANDARD_LIMITS = ONE_UNIT, ONE_UNIT // 2
+
+# Paths and sheets
+
+DEGREE = 3                          # points from a join to the next one
+MOST_SEGMENTS = 64
+MOST_PATHS = 1_024
+MOST_BYTES = 32_768

@@ -1,0 +1,113 @@
+"""What is made by chance: walks of points, sheets, and damage to them.
+
+It comes from the random.Random that is handed in, so that a seed decides it.
+"""
+from itertools import cycle, islice
+
+from makers import point
+from model.constants import (FARTHEST, FINEST, HIGHEST, LEAST, LOWEST, MOST,
+                             MOST_SEGMENTS, ONE_UNIT, POINT_NUMBERS,
+                             STANDARD_LIMITS)
+from model.points import points_in
+
+
+def one_in(chance, number):
+    return chance.randrange(number) == 0
+
+
+def clamped(value, least, most):
+    return min(max(value, least), most)
+
+
+# Points whose neighbours are near enough
+
+def corner(*ends):
+    """A point with one end of the range after the other."""
+    return tuple(islice(cycle(ends), POINT_NUMBERS))
+
+
+CORNERS = [corner(LOWEST, HIGHEST), corner(HIGHEST, LOWEST)]
+
+
+def random_walk(chance, start, number, reach):
+    """So many points; reach() is how far the next may be."""
+    points = []
+    for _ in range(number):
+        points.append(start)
+        far = reach()
+        start = tuple(clamped(value + chance.randint(-far, far), LOWEST,
+                              HIGHEST) for value in start)
+    return points
+
+
+def random_points(chance, number):
+    """So many, all of them near together or all far apart."""
+    reach = chance.choice([0, 1, 3, 3, 20, 20, 100, FARTHEST])
+    anywhere = point(chance.randint(LOWEST, HIGHEST), -9_000)
+    start = chance.choice([point(), anywhere, *CORNERS])
+    return random_walk(chance, start, number, lambda: reach)
+
+
+# Good sheets, and what they are made of
+
+GOOD_LIMITS = [(1, 0), (1, 1), (ONE_UNIT, 0), (ONE_UNIT, ONE_UNIT),
+               (40_000, 20)]
+
+
+def random_level(chance):
+    return chance.randint(0, FINEST)
+
+
+def random_limits(chance):
+    """Upper and lower: the standard ones, ones at the ends, or any."""
+    upper = chance.randint(1, ONE_UNIT)
+    return chance.choice([STANDARD_LIMITS, chance.choice(GOOD_LIMITS),
+                          (upper, chance.randint(0, upper))])
+
+
+def random_path(chance):
+    """A path of 1 or 2 segments, at times near the ends."""
+    start = chance.choice([point(), *CORNERS])
+    points = random_walk(chance, start, points_in(chance.randint(1, 2)),
+                         lambda: chance.choice([3, FARTHEST]))
+    return random_level(chance), points
+
+
+def random_sheet(chance):
+    """Upper, lower and up to 3 paths."""
+    upper = chance.randint(1, ONE_UNIT)
+    paths = [random_path(chance) for _ in range(chance.randint(0, 3))]
+    return upper, chance.randint(0, upper), paths
+
+
+# Damage
+
+def strange_byte(chance):
+    return chance.choice([0, 1, 2, FINEST, FINEST + 1, MOST_SEGMENTS,
+                          MOST_SEGMENTS + 1, 127, 128, 255,
+                          chance.randrange(256)])
+
+
+def strange_number(chance):
+    return chance.choice([-1, 0, 1, 2, 3, FINEST, FINEST + 1, MOST_SEGMENTS,
+                          MOST_SEGMENTS + 1, FARTHEST, FARTHEST + 1, HIGHEST,
+                          HIGHEST + 1, LOWEST, LOWEST - 1, ONE_UNIT, MOST,
+                          LEAST, chance.randint(-700, 700)])
+
+
+def damage(chance, values, strange):
+    """One value changed, values cut off or taken out, or values added."""
+    values = list(values)
+    place = chance.randrange(len(values))
+    kind = chance.randrange(8)
+    if kind == 0:
+        return values[:place]
+    if kind == 1:
+        return values + [strange(chance) for _ in range(chance.randint(1, 4))]
+    if kind == 2:
+        del values[place]
+    elif kind == 3:
+        values.insert(place, strange(chance))
+    else:
+        values[place] = strange(chance)
+    return values

@@ -1,0 +1,89 @@
+"""Two good sheets, their number lists, and what is refused of them.
+
+SPOILT_SHEETS and SPOILT_LISTS have some for each refusal of reading and of
+writing, by its number, but for 9, which depends on the room alone.
+"""
+from makers import jump, number_list, point, sheet, straight
+from model.constants import (DEGREE, FARTHEST, FINEST, HIGHEST, LEAST, LOWEST,
+                             MOST, MOST_PATHS, MOST_SEGMENTS, ONE_UNIT,
+                             POINT_NUMBERS, STANDARD_LIMITS)
+from places import (COUNT, LISTED_COUNT, LISTED_LOWER, LISTED_UPPER, LOWER,
+                    UPPER, listed_places, offset, put, record_places, swap)
+
+BENT = (FINEST, [point(-5, 7), point(-4, 9), point(100, -200), point(50, 60)])
+PAIR = [straight(1), BENT]
+
+ONE, ONE_LIST = sheet(straight(1)), number_list(straight(1))
+TWO, TWO_LIST = sheet(*PAIR), number_list(*PAIR)
+
+# Their places: of the only path, and of the first and the second.
+ONLY, = record_places([straight(1)])
+FIRST, SECOND = record_places(PAIR)
+LISTED_ONLY, = listed_places([straight(1)])
+LISTED_FIRST, LISTED_SECOND = listed_places(PAIR)
+
+FAR, GAP = HIGHEST + 1, 700         # a coordinate and a gap that are too large
+
+
+def wraps(bits):
+    """Segments whose points are about as many numbers as so many bits count."""
+    return 2**bits // (DEGREE * POINT_NUMBERS)
+
+
+SPOILT_SHEETS = {
+    1: [put(TWO, (FIRST.x(0), FAR)), put(TWO, (SECOND.y(3), LOWEST - 1)),
+        put(TWO, (FIRST.x(1), GAP), (FIRST.y(2), -32_768))],
+    2: [put(ONE, (ONLY.x(3), 2 + FARTHEST + 1)),
+        put(TWO, (SECOND.y(0), 9 - FARTHEST - 1)),
+        sheet(jump(2, 2, FARTHEST + 1, 0)),
+        sheet(jump(2, 3, 0, -FARTHEST - 1)) + bytes(1)],
+    3: [put(ONE, (ONLY.level, FINEST + 1)), put(TWO, (SECOND.level, 256)),
+        put(TWO, (FIRST.level, 65_535))],
+    4: [put(ONE, (UPPER, 0)), put(ONE, (UPPER, ONE_UNIT + 1)),
+        put(TWO, (LOWER, ONE_UNIT + 1)), put(TWO, (LOWER, 2**31))],
+    11: [b"", sheet()[:1], sheet()[:-1]],
+    12: [put(ONE, (COUNT, MOST_PATHS + 1)), put(ONE, (COUNT, 2**30)),
+         ONE[:ONLY.start - 1], put(sheet(), (COUNT, 1))],
+    13: [put(ONE, (offset(0), ONLY.start + 1)),
+         put(TWO, (offset(1), SECOND.start + 1)),
+         put(TWO, (offset(1), 2**32 - 1)), put(TWO, (COUNT, 1))],
+    14: [put(ONE, (ONLY.segments, 0)),
+         put(TWO, (SECOND.segments, MOST_SEGMENTS + 1)),
+         put(TWO, (FIRST.segments, 65_535))],
+    15: [ONE[:ONLY.start], ONE[:ONLY.start + 3], ONE[:-1],
+         TWO[:SECOND.start], TWO[:-1], put(TWO, (SECOND.segments, 2))],
+    16: [sheet() + bytes(1), TWO + bytes(1), put(ONE, (COUNT, 0))],
+}
+
+SPOILT_LISTS = {
+    1: [swap(ONE_LIST, (LISTED_ONLY.x(0), FAR)),
+        swap(TWO_LIST, (LISTED_SECOND.y(3), LEAST)),
+        swap(ONE_LIST, (LISTED_ONLY.x(1), GAP), (LISTED_ONLY.y(3), 65_536))],
+    2: [swap(ONE_LIST, (LISTED_ONLY.x(3), 2 + FARTHEST + 1)),
+        swap(TWO_LIST, (LISTED_SECOND.y(0), 9 - FARTHEST - 1)),
+        number_list(jump(2, 2, 0, FARTHEST + 1)) + [0]],
+    3: [swap(ONE_LIST, (LISTED_ONLY.level, FINEST + 1)),
+        swap(TWO_LIST, (LISTED_SECOND.level, -1)),
+        swap(TWO_LIST, (LISTED_FIRST.level, MOST))],
+    4: [[0, 0, 0], swap(ONE_LIST, (LISTED_UPPER, ONE_UNIT + 1)),
+        swap(TWO_LIST, (LISTED_LOWER, -1))],
+    11: [number_list(*[straight(MOST_SEGMENTS)] * 42)],
+    12: [[MOST_PATHS + 1, 0, 0], [-1, *STANDARD_LIMITS],
+         swap(ONE_LIST, (LISTED_COUNT, LEAST))],
+    14: [swap(ONE_LIST, (LISTED_ONLY.segments, 0)),
+         swap(TWO_LIST, (LISTED_SECOND.segments, MOST_SEGMENTS + 1)),
+         swap(TWO_LIST, (LISTED_FIRST.segments, wraps(32) + 1)),
+         swap(ONE_LIST, (LISTED_ONLY.segments, -1))],
+    17: [[], [0, 0], TWO_LIST[:LISTED_SECOND.level], TWO_LIST[:-1],
+         TWO_LIST + [0], swap(TWO_LIST, (LISTED_COUNT, 1)),
+         [MOST_PATHS, *STANDARD_LIMITS]],
+}
+
+READ_REFUSALS = {9, *SPOILT_SHEETS}
+WRITE_REFUSALS = {9, *SPOILT_LISTS}
+
+
+def two_of_each():
+    """(refusal, sheet): the first and the last of each refusal."""
+    return [(number, sheets[place]) for number, sheets in SPOILT_SHEETS.items()
+            for place in (0, -1)]
