@@ -5,22 +5,21 @@ use mathlib.Core.List.{List, [], _∷_}
 use Prim.Native.Nat.{ℕ}
 use lib.IntN.{ℤ}
 use Rattle.numbers.specs.Tables.{All}
-use Rattle.rules.specs.Rules.{finest, areLimits}
+use Rattle.rules.specs.Rules.{finest, areLimits, pointsRefusal}
 use Rattle.path.specs.Path.{path, pathRefusal}
-use Rattle.path.specs.Answer.{measureRefusal}
 use Rattle.sheet.specs.Bytes.{Bytes}
 use Rattle.sheet.specs.Sheet.{Target, Sheet, RightPath, Right}
-use Rattle.sheet.specs.Reading.{sheetAt}
-use Rattle.sheet.specs.Writing.{sheetOf}
+use Rattle.sheet.specs.Records.{sheetAt}
+use Rattle.sheet.specs.NumberList.{sheetOf}
 use Rattle.sheet.specs.Answer.{readAnswer, writeAnswer}
 use Rattle.sheet.proofs.RoundTrips.{read-accepted, write-accepted}
 
 -- measured without a refusal; drawing then refuses only by 9, for the room (`refuses-9` of path)
 abbrev pub Drawable : Sheet → Target → Type 0
-Drawable s t = measureRefusal finest (path (t .points) (t .segments) (t .level) (s .upper) (s .lower)) ≡ 0
+Drawable s t = pathRefusal finest (path (t .points) (t .segments) (t .level) (s .upper) (s .lower)) ≡ 0
 
 pub path-drawable : (s : Sheet) (t : Target) → areLimits (s .upper) (s .lower) ≡ true → RightPath t → Drawable s t
-unfolding measureRefusal pathRefusal
+unfolding pathRefusal pointsRefusal
 path-drawable s t limits p = rw (p .size, p .points, p .chained, p .level, limits)
 
 paths-drawable : (s : Sheet) (ts : List Target) → areLimits (s .upper) (s .lower) ≡ true → All RightPath ts → All (Drawable s) ts

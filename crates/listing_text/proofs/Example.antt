@@ -2,30 +2,22 @@
 use mathlib.Core.Path.{_≡_, refl}
 use mathlib.Core.List.{List, [], _∷_}
 use Prim.Native.Nat.{ℕ}
-use Rattle.rules.specs.Rules.{isCoordinate, areNeighbours, isLevel, areLimits, isSegments, isSize, arePoints, areBeside, areChained}
-use Rattle.engine.specs.Curve.{curve}
-use Rattle.engine.specs.Registers.{startRegisters, turn}
+use Rattle.rules.specs.Rules.{isCoordinate, areNeighbours, isLevel, areLimits, isSegments, isSize, arePoints, areBeside, areChained, headRefusal, pointsRefusal}
+use Rattle.coordinate.specs.Curve.{curve}
+use Rattle.coordinate.specs.Registers.{startRegisters, turn}
+use Rattle.coordinate.specs.Increment.{increment, doubledIncrement}
+use Rattle.coordinate.specs.Shown.{pixel}
 use Rattle.engine.specs.Drawing.{isAligned, turned}
-use Rattle.engine.specs.Choice.{increment, doubledIncrement, wantsHalve, wantsDouble, chosen}
-use Rattle.engine.specs.Shown.{pixel}
+use Rattle.engine.specs.Choice.{wantsHalve, wantsDouble, chosen}
 use Rattle.entries.specs.Length.{moveLength, lengthFrom, lengthOf}
 use Rattle.path.specs.Path.{pathRefusal, pointAt, control, first}
 use Rattle.path.specs.Segment.{turnsIn, turns}
 use Rattle.path.specs.Entries.{entry, shownBy, rest, following, entries}
-use Rattle.path.specs.Answer.{measureRefusal, measured}
+use Rattle.path.specs.Answer.{measured}
 use Rattle.sheet.specs.Bytes.{valuesAt}
-use Rattle.sheet.specs.Reading.{
-  recordAt,
-  recordsAt,
-  sheetAt,
-  pointsRefusal,
-  pathRules,
-  isOffset,
-  bodyRefusal,
-  recordRefusal,
-  recordsRefusal,
-  sheetRefusal,
-}
+use Rattle.sheet.specs.Records.{recordAt, recordsAt, sheetAt}
+use Rattle.sheet.specs.PathRules.{pathRules}
+use Rattle.sheet.specs.Reading.{isOffset, bodyRefusal, recordRefusal, recordsRefusal, sheetRefusal}
 use Rattle.sheet.proofs.Example.{documentBytes}
 use Rattle.text.specs.Decimal.{decimalIn, decimal, numeral}
 use Rattle.listing_text.specs.Lines.{named, followed, pathsLine, pathLine, entryLine, entryLines}
@@ -53,7 +45,7 @@ documentText =
 
 pub document-listing : listing documentBytes ≡ documentText
 unfolding listing sheetText pathsText pathText pathsLine pathLine entryLine entryLines named followed decimal decimalIn numeral sheetAt recordsAt
-    recordAt valuesAt sheetRefusal recordsRefusal recordRefusal bodyRefusal isOffset pathRules pointsRefusal measured measureRefusal
+    recordAt valuesAt sheetRefusal recordsRefusal recordRefusal bodyRefusal isOffset pathRules headRefusal pointsRefusal measured
     pathRefusal isSegments isSize arePoints areChained areBeside isCoordinate areNeighbours isLevel areLimits entries following rest shownBy
     entry turns turnsIn chosen wantsHalve wantsDouble increment doubledIncrement isAligned turned turn pixel first control pointAt
     startRegisters curve moveLength lengthFrom lengthOf

@@ -1,40 +1,40 @@
--- A path's entries, segment by segment: into 6,147 numbers each segment of an accepted path is drawn whole, and what the segments add,
+-- A path's entries, segment by segment: into the numbers of a segment each segment of an accepted path is drawn whole, and what the segments add,
 -- one after another, is the path's list.
 use mathlib.Core.Path.{_≡_, refl}
 use mathlib.Core.List.{List, [], _∷_, _++_, tail, append-assoc}
-use Prim.Native.Nat.{ℕ, zero, suc, _+_, _≤_, _<_}
+use Prim.Native.Nat.{ℕ, zero, suc, _+_, _^_, _≤_, _<_}
 use native.Mathlib.Omega.{arith}
 use lib.ListN.{length}
 use Rattle.rules.specs.Rules.{finest}
 use Rattle.entries.specs.declared.Entry.{Entry}
-use Rattle.path.specs.Path.{Path}
+use Rattle.path.specs.Path.{Path, pathRefusal}
 use Rattle.path.specs.Entries.{entries}
 use Rattle.path.specs.Joined.{alone, placed, joins}
-use Rattle.path.specs.Answer.{measureRefusal}
 use Rattle.path.proofs.Refusals.{room-drawn}
 use Rattle.path.proofs.Accepted.{accepted-lawful}
 use Rattle.path.proofs.Joined.{joined, alone-accepted}
 use Rattle.path.proofs.Listed.{listed}
+use Rattle.distance.proofs.Demand3.{fine}
 use Rattle.listing_text.specs.Lines.{entryLines}
-use Rattle.listing_text.specs.Pieces.{segmentEntries, added}
+use Rattle.listing_text.specs.Pieces.{segmentNumbers, segmentEntries, added}
 
 -- ---- one segment
 
-pub segment-few : (p : Path) (k : ℕ) → measureRefusal finest p ≡ 0 → k < p .segments → length (entries finest (alone p k)) ≤ 2049
+pub segment-few : (p : Path) (k : ℕ) → pathRefusal finest p ≡ 0 → k < p .segments → length (entries finest (alone p k)) ≤ 2 ^ finest + 1
 unfolding alone
-segment-few p k e h = listed (alone p k) (alone-accepted finest p k e h) .count
+segment-few p k e h = listed finest (alone p k) fine (alone-accepted finest p k e h) .count
 
-pub segment-whole : (p : Path) (k room : ℕ) → measureRefusal finest p ≡ 0 → k < p .segments → 6147 ≤ room
+pub segment-whole : (p : Path) (k room : ℕ) → pathRefusal finest p ≡ 0 → k < p .segments → segmentNumbers ≤ room
     → segmentEntries p k room ≡ entries finest (alone p k)
 unfolding segmentEntries
 segment-whole p k room e h r =
     rw (room-drawn finest (alone p k) room (alone-accepted finest p k e h) (omega (arith, segment-few p k e h)))
 
-pub added-first : (p : Path) (room : ℕ) → measureRefusal finest p ≡ 0 → 0 < p .segments → 6147 ≤ room → added p 0 room ≡ placed finest p 0
+pub added-first : (p : Path) (room : ℕ) → pathRefusal finest p ≡ 0 → 0 < p .segments → segmentNumbers ≤ room → added p 0 room ≡ placed finest p 0
 unfolding added placed
 added-first p room e h r = rw (segment-whole p 0 room e h r)
 
-pub added-later : (p : Path) (k room : ℕ) → measureRefusal finest p ≡ 0 → suc k < p .segments → 6147 ≤ room
+pub added-later : (p : Path) (k room : ℕ) → pathRefusal finest p ≡ 0 → suc k < p .segments → segmentNumbers ≤ room
     → added p (suc k) room ≡ tail (placed finest p (suc k))
 unfolding added placed
 added-later p k room e h r = rw (segment-whole p (suc k) room e h r)
@@ -51,7 +51,7 @@ unfoldable pub addedLines : Path → ℕ → ℕ → ℕ → List ℕ
 addedLines p room k zero = []
 addedLines p room k (suc m) = entryLines (added p k room) ++ addedLines p room (k + 1) m
 
-module _ (p : Path) (room : ℕ) (e : measureRefusal finest p ≡ 0) (r : 6147 ≤ room) where
+module _ (p : Path) (room : ℕ) (e : pathRefusal finest p ≡ 0) (r : segmentNumbers ≤ room) where
   joins-lines : (m k : ℕ) → 0 < k → k + m ≤ p .segments → entryLines (joins finest p k m) ≡ addedLines p room k m
   unfolding entryLines joins addedLines
   joins-lines zero k h l = refl

@@ -1,10 +1,8 @@
--- Laws of a listing's text, for the crates that cite them.
+-- Laws of the listing's text.
 pub mod Drawable
-pub mod Reach
-pub mod Drawn
 pub mod Joins
 pub mod Fits
+pub mod Places
 pub mod Whole
-pub mod Coming
-pub mod Answered
+pub mod Refused
 pub mod Example

@@ -1,200 +1,46 @@
--- The pieces of an accepted sheet, one after another from its first place on, are its listing.
-use mathlib.Core.Path.{_≡_, refl, sym, ap, _∙_}
-use mathlib.Core.Bool.{true, false}
-use mathlib.Core.List.{List, [], _∷_, _++_, append-assoc}
-use Prim.Native.Nat.{ℕ, zero, suc, _+_, _*_, _≤_, _<_}
-use native.Mathlib.Nat.{min-eq-left}
-use native.Mathlib.Numerals.{add-one}
+-- The pieces of an accepted sheet, one after another from its first place on, are its listing, and none is cut.
+use mathlib.Core.Path.{_≡_, ap, _∙_}
+use mathlib.Core.List.{List, _++_}
+use Prim.Native.Nat.{ℕ, _*_, _≤_}
 use native.Mathlib.Omega.{arith}
-use lib.Dec.{T, leb, eqb, leb→le}
-use lib.IntN.{ℤ, pos}
-use lib.ListN.{length, replicate, length-replicate, length-append}
-use borrow.Author.Tests.{lt-ltb, le-ltb, eqb-true, eqb-false}
+use lib.ListN.{length}
 use Rattle.numbers.specs.Tables.{All}
-use Rattle.numbers.proofs.Tables.{tested, all-append}
-use Rattle.rules.specs.Rules.{isAmong, finest, areLimits}
-use Rattle.rules.proofs.Laws.{first-kept}
-use Rattle.path.specs.Path.{Path}
-use Rattle.path.specs.Answer.{measureRefusal}
-use Rattle.path.proofs.Turns.{by-test}
-use Rattle.path.proofs.Accepted.{accepted-lawful}
 use Rattle.sheet.specs.Bytes.{Bytes}
-use Rattle.sheet.specs.Sheet.{Sheet, sheetNumbers, Right}
-use Rattle.sheet.specs.Reading.{sheetAt, sheetRefusal, readRefusal}
-use Rattle.sheet.specs.Writing.{numberAt, pathAt, pathEnd, pathsAt, sheetOf, pathRefusal, pathsRefusal}
-use Rattle.sheet.specs.declared.Written.{Written}
-use Rattle.sheet.specs.Answer.{readTable, readAnswer}
-use Rattle.sheet.proofs.Writing.{path-fits, paths-numbers, listed}
+use Rattle.sheet.specs.Sheet.{Sheet, listHead, sheetNumbers, Right}
+use Rattle.sheet.specs.Records.{sheetAt}
+use Rattle.sheet.specs.NumberList.{sheetOf}
+use Rattle.sheet.specs.Reading.{sheetRefusal}
+use Rattle.sheet.proofs.Writing.{listed}
 use Rattle.sheet.proofs.ReadsOnly.{reads-only}
 use Rattle.sheet.proofs.WritesBack.{writes-back}
-use Rattle.sheet.proofs.Room.{room-refused}
-use Rattle.sheet.proofs.RoundTrips.{room-for-every-sheet}
-use Rattle.sheet.proofs.Demand1.{read-refuses-as-tabled}
 use Rattle.listing_text.specs.declared.Place.{Place}
-use Rattle.listing_text.specs.Lines.{pathsLine, refusedLine}
-use Rattle.listing_text.specs.Listing.{pathText, pathsText, sheetText, listing}
-use Rattle.listing_text.specs.Pieces.{pathIn, heading, pieceText, nextPlace, Visits, piecesText}
-use Rattle.listing_text.proofs.Drawable.{path-drawable}
-use Rattle.listing_text.proofs.Joins.{addedLines, path-lines}
-use Rattle.listing_text.specs.Printed.{Uncut, Printed}
-use Rattle.listing_text.proofs.Fits.{Inside, Short, pieces-short, paths-line-short, refused-line-short, uncut, pieces-uncut}
-
--- ---- n paths that are accepted and lie inside l, the first at `at`
-
-abbrev Accepted : List ℤ → ℕ → ℕ → Type 0
-Accepted l zero at = Unit
-Accepted l (suc n) at = (measureRefusal finest (pathIn l at) ≡ 0) × (pathEnd l at ≤ length l) × Accepted l n (pathEnd l at)
-
-paths-accepted : (l : List ℤ) (n at : ℕ) → areLimits (numberAt l 1) (numberAt l 2) ≡ true → at ≤ length l → pathsRefusal l n at ≡ 0
-    → Accepted l n at
-unfolding pathsRefusal pathsAt sheetOf
-paths-accepted l zero at limits h e = tt
-paths-accepted l (suc n) at limits h e =
-    let kept = first-kept (pathRefusal l at) (pathsRefusal l n (pathEnd l at)) e in
-    let inside = path-fits l at (kept .0) in (
-      path-drawable (sheetOf l) (pathAt l at) limits (paths-numbers l (suc n) at h e .0 .0),
-      inside,
-      paths-accepted l n (pathEnd l at) limits inside (kept .1),
-    )
-
-some-segments : (l : List ℤ) (at : ℕ) → measureRefusal finest (pathIn l at) ≡ 0 → 0 < numberAt l at
-unfolding pathAt
-some-segments l at e = accepted-lawful finest (pathIn l at) e .some
-
--- ---- their places
-
-abbrev place : ℕ → ℕ → ℕ → Place
-place i at k = record { path = i; at = at; segment = k }
-
--- m segments of path i, from the k-th on
-segmentPlaces : ℕ → ℕ → ℕ → ℕ → List Place
-segmentPlaces i at k zero = []
-segmentPlaces i at k (suc m) = place i at k ∷ segmentPlaces i at (k + 1) m
-
--- n paths, the first of them path i
-pathPlaces : List ℤ → ℕ → ℕ → ℕ → List Place
-pathPlaces l i at zero = []
-pathPlaces l i at (suc n) = segmentPlaces i at 0 (numberAt l at) ++ pathPlaces l (i + 1) (pathEnd l at) n
-
-module _ (l : List ℤ) (i at k : ℕ) where
-  next-segment : k + 1 < numberAt l at → nextPlace l (place i at k) ≡ place i at (k + 1)
-  unfolding nextPlace
-  next-segment h = rw (lt-ltb (k + 1) (numberAt l at) h)
-
-  next-path : numberAt l at ≡ k + 1 → pathEnd l at ≤ length l → nextPlace l (place i at k) ≡ place (i + 1) (pathEnd l at) 0
-  unfolding nextPlace
-  next-path e h = rw (le-ltb (k + 1) (numberAt l at) (omega arith), min-eq-left h)
-
--- ---- they are visited one after another
-
-segments-visited : (l : List ℤ) (N i at m k : ℕ) (qs : List Place) → numberAt l at ≡ k + suc m → pathEnd l at ≤ length l → i < N
-    → Visits l N (place (i + 1) (pathEnd l at) 0) qs → Visits l N (place i at k) (segmentPlaces i at k (suc m) ++ qs)
-unfolding segmentPlaces
-segments-visited l N i at zero k qs e h b v = (refl, b, rw (next-path l i at k (omega arith) h) v)
-segments-visited l N i at (suc m) k qs e h b v =
-    (refl, b, rw (next-segment l i at k (omega arith)) (segments-visited l N i at m (k + 1) qs (omega arith) h b v))
-
-paths-visited : (l : List ℤ) (N n i at : ℕ) → i + n ≡ N → Accepted l n at → Visits l N (place i at 0) (pathPlaces l i at n)
-unfolding pathPlaces
-paths-visited l N zero i at e a = omega arith
-paths-visited l N (suc n) i at e a =
-    by-segments (numberAt l at) refl (paths-visited l N n (i + 1) (pathEnd l at) (omega arith) (a .2))
-  where
-    others : List Place
-    others = pathPlaces l (i + 1) (pathEnd l at) n
-
-    by-segments : (S : ℕ) → numberAt l at ≡ S → Visits l N (place (i + 1) (pathEnd l at) 0) others
-        → Visits l N (place i at 0) (segmentPlaces i at 0 S ++ others)
-    by-segments zero f v = absurd (omega (arith, some-segments l at (a .0)))
-    by-segments (suc m) f v = segments-visited l N i at m 0 others (omega arith) (a .1) (omega arith) v
-
--- ---- each stands inside an accepted path
-
-segments-inside : (l : List ℤ) (i at : ℕ) → measureRefusal finest (pathIn l at) ≡ 0 → i < 1024
-    → (m k : ℕ) → k + m ≤ numberAt l at → All (Inside l) (segmentPlaces i at k m)
-unfolding segmentPlaces pathAt
-segments-inside l i at e b zero k h = tt
-segments-inside l i at e b (suc m) k h = ((e, omega arith, b), segments-inside l i at e b m (k + 1) (omega arith))
-
-paths-inside : (l : List ℤ) (n i at : ℕ) → i + n ≤ 1024 → Accepted l n at → All (Inside l) (pathPlaces l i at n)
-unfolding pathPlaces
-paths-inside l zero i at b a = tt
-paths-inside l (suc n) i at b a =
-    all-append (Inside l) (segmentPlaces i at 0 (numberAt l at)) (pathPlaces l (i + 1) (pathEnd l at) n)
-    (segments-inside l i at (a .0) (omega arith) (numberAt l at) 0 (omega arith))
-    (paths-inside l n (i + 1) (pathEnd l at) (omega arith) (a .2))
-
--- ---- there are at most 64 a path
-
-segments-few : (i at m k : ℕ) → length (segmentPlaces i at k m) ≡ m
-unfolding segmentPlaces
-segments-few i at zero k = refl
-segments-few i at (suc m) k = ap suc (segments-few i at m (k + 1))
-
-places-few : (l : List ℤ) (n i at : ℕ) → Accepted l n at → length (pathPlaces l i at n) ≤ 64 * n
-unfolding pathPlaces pathAt
-places-few l zero i at a = omega arith
-places-few l (suc n) i at a =
-    let most = accepted-lawful finest (pathIn l at) (a .0) .most in
-    rw (length-append, segments-few) (omega (arith, most, places-few l n (i + 1) (pathEnd l at) (a .2)))
-
--- ---- their text
-
-pieces-append : (l : List ℤ) (room : ℕ) (ps qs : List Place) → piecesText l room (ps ++ qs) ≡ piecesText l room ps ++ piecesText l room qs
-unfolding piecesText
-pieces-append l room [] qs = refl
-pieces-append l room (p ∷ ps) qs = rw (pieces-append l room ps qs, append-assoc)
-
--- only the first segment has the path's line before it
-no-heading : (k i : ℕ) (p : Path) → heading (k + 1) i p ≡ []
-no-heading k i p = rw add-one
-
-segments-text : (l : List ℤ) (room i at m k : ℕ)
-    → piecesText l room (segmentPlaces i at k (suc m)) ≡ heading k i (pathIn l at) ++ addedLines (pathIn l at) room k (suc m)
-unfolding segmentPlaces piecesText pieceText addedLines
-segments-text l room i at zero k = append-assoc (heading k i (pathIn l at)) _ []
-segments-text l room i at (suc m) k =
-    rw (segments-text l room i at m (k + 1), no-heading k i (pathIn l at)) (append-assoc (heading k i (pathIn l at)) _ _)
-
-path-text : (l : List ℤ) (room i at : ℕ) → measureRefusal finest (pathIn l at) ≡ 0 → 6147 ≤ room
-    → piecesText l room (segmentPlaces i at 0 (numberAt l at)) ≡ pathText i (pathIn l at)
-unfolding pathText pathAt
-path-text l room i at e r = rw (path-lines (pathIn l at) room e r) (by-segments (numberAt l at) (some-segments l at e))
-  where
-    by-segments : (S : ℕ) → 0 < S
-        → piecesText l room (segmentPlaces i at 0 S) ≡ heading 0 i (pathIn l at) ++ addedLines (pathIn l at) room 0 S
-    by-segments zero f = absurd (omega arith)
-    by-segments (suc m) f = segments-text l room i at m 0
-
-paths-text : (l : List ℤ) (room n i at : ℕ) → Accepted l n at → 6147 ≤ room
-    → piecesText l room (pathPlaces l i at n) ≡ pathsText (sheetOf l) i (pathsAt l n at)
-unfolding pathPlaces piecesText pathsText pathsAt
-paths-text l room zero i at a r = refl
-paths-text l room (suc n) i at a r =
-    rw (pieces-append, path-text l room i at (a .0) r, paths-text l room n (i + 1) (pathEnd l at) (a .2) r)
-
--- ---- the whole listing
+use Rattle.listing_text.specs.Lines.{pathsLine}
+use Rattle.listing_text.specs.Listing.{pathsText, sheetText, listing}
+use Rattle.listing_text.specs.Pieces.{segmentNumbers, firstPlace, Visits, piecesText}
+use Rattle.listing_text.specs.Printed.{Printed}
+use Rattle.listing_text.proofs.Fits.{Short, pieces-short, paths-line-short, uncut, pieces-uncut}
+use Rattle.listing_text.proofs.Places.{Accepted, paths-accepted, pathPlaces, paths-visited, paths-inside, places-few, paths-text}
 
 -- the number list of a right sheet
-sheet-accepted : (s : Sheet) → Right s → Accepted (sheetNumbers s) (length (s .paths)) 3
+sheet-accepted : (s : Sheet) → Right s → Accepted (sheetNumbers s) (length (s .paths)) listHead
 unfolding sheetNumbers
 sheet-accepted s r =
     let kept = listed (sheetNumbers s) (writes-back s r .1) in
-    paths-accepted (sheetNumbers s) (length (s .paths)) 3 (kept .limits) (kept .parted .0) (kept .parted .2)
+    paths-accepted (sheetNumbers s) (length (s .paths)) listHead (kept .limits) (kept .parted .0) (kept .parted .2)
 
 sheet-text : (s : Sheet) → Right s
-    → piecesText (sheetNumbers s) 6147 (pathPlaces (sheetNumbers s) 0 3 (length (s .paths))) ≡ pathsText s 0 (s .paths)
+    → piecesText (sheetNumbers s) segmentNumbers (pathPlaces (sheetNumbers s) 0 listHead (length (s .paths))) ≡ pathsText s 0 (s .paths)
 unfolding sheetNumbers sheetOf
 sheet-text s r =
-    paths-text (sheetNumbers s) 6147 (length (s .paths)) 0 3 (sheet-accepted s r) (omega arith)
+    paths-text (sheetNumbers s) segmentNumbers (length (s .paths)) 0 listHead (sheet-accepted s r) (omega arith)
     ∙ ap (λ (t : Sheet). pathsText t 0 (t .paths)) (writes-back s r .0)
 
 -- the pieces of a right sheet, from its first place on
 pub record Pieces (s : Sheet) : Type 0 where
   pub places : List Place
-  pub visits : Visits (sheetNumbers s) (length (s .paths)) (place 0 3 0) places
+  pub visits : Visits (sheetNumbers s) (length (s .paths)) firstPlace places
   pub short : All (Short (sheetNumbers s)) places
-  pub text : pathsLine (length (s .paths)) ++ piecesText (sheetNumbers s) 6147 places ≡ sheetText s
+  pub text : pathsLine (length (s .paths)) ++ piecesText (sheetNumbers s) segmentNumbers places ≡ sheetText s
   -- at most 64 segments a path
   pub few : length places ≤ 64 * length (s .paths)
 
@@ -204,13 +50,13 @@ sheet-pieces s r =
     let l = sheetNumbers s in
     let N = length (s .paths) in
     let accepted = sheet-accepted s r in
-    let places = pathPlaces l 0 3 N in
+    let places = pathPlaces l 0 listHead N in
     record {
       places = places;
-      visits = paths-visited l N N 0 3 (omega arith) accepted;
-      short = pieces-short l places (paths-inside l N 0 3 (omega (arith, r .few)) accepted);
+      visits = paths-visited l N N 0 listHead (omega arith) accepted;
+      short = pieces-short l places (paths-inside l N 0 listHead (omega (arith, r .few)) accepted);
       text = rw (sheet-text s r);
-      few = places-few l N 0 3 accepted;
+      few = places-few l N 0 listHead accepted;
     }
 
 pub printed : (b : List ℕ) → Bytes b → sheetRefusal b ≡ 0 → Printed b
@@ -226,40 +72,3 @@ printed b bs e =
       each = pieces-uncut (sheetNumbers s) (p .places) (p .short);
       text = rw e (p .text);
     }
-
--- ---- a refused sheet
-
--- one of a table whose numbers are at most m
-among-most : (k m : ℕ) (table : List ℕ) → All (λ n. n ≤ m) table → T (isAmong k table) → k ≤ m
-among-most k m [] a t = absurd t
-among-most k m (n ∷ table) a t =
-    by-test (eqb k n) (λ e. omega (arith, eqb-true k n e, a .0)) (λ e. among-most k m table (a .1) (rw e at t))
-
--- reading into 16,384 numbers refuses by the sheet alone
-pub refused-by-the-sheet : (b : List ℕ) → Bytes b → readAnswer b 16384 .refusal ≡ sheetRefusal b
-unfolding readAnswer readRefusal
-refused-by-the-sheet b bs = by-test (eqb (sheetRefusal b) 0) accepted refused
-  where
-    accepted : eqb (sheetRefusal b) 0 ≡ true → readAnswer b 16384 .refusal ≡ sheetRefusal b
-    accepted e =
-        let none = eqb-true (sheetRefusal b) 0 e in
-        let room = replicate 16384 (pos 0) in
-        let enough : 16384 ≤ length room = rw (length-replicate 16384 (pos 0)) (omega arith) in
-        let read = rw (length-replicate 16384 (pos 0)) at (room-for-every-sheet b room bs none enough) in
-        ap (λ (w : Written). w .refusal) read ∙ sym none
-
-    refused : eqb (sheetRefusal b) 0 ≡ false → readAnswer b 16384 .refusal ≡ sheetRefusal b
-    refused e =
-        let n = length (sheetNumbers (sheetAt b)) in
-        ap (λ (w : Written). w .refusal) (room-refused (sheetRefusal b) n 16384 (eqb-false (sheetRefusal b) 0 e))
-
-pub refused-short : (b : List ℕ) (k : ℕ) → Bytes b → sheetRefusal b ≡ suc k → length (refusedLine (suc k)) ≤ 65536
-refused-short b k bs e =
-    let tabled = rw (refused-by-the-sheet b bs, e) at (read-refuses-as-tabled b 16384) in
-    let small = tested (λ n. n ≤ 17) (λ n. leb n 17) (λ n t. leb→le n 17 t) readTable tt in
-    refused-line-short (suc k) (among-most (suc k) 17 readTable small (tabled .is))
-
-pub printed-refused : (b : List ℕ) (k : ℕ) → Bytes b → sheetRefusal b ≡ suc k
-    → (listing b ≡ refusedLine (suc k)) × Uncut (refusedLine (suc k))
-unfolding listing
-printed-refused b k bs e = (rw e, uncut _ (refused-short b k bs e))

@@ -1,13 +1,15 @@
 -- The text that a sheet is listed by: "paths N"; for each path its line, and a line for each entry. A refused sheet has one line.
 use mathlib.Core.List.{List, [], _∷_, _++_}
-use Prim.Native.Nat.{ℕ, zero, suc, _+_}
+use Prim.Native.Nat.{ℕ, _+_}
 use lib.ListN.{length}
+use Rattle.rules.specs.Refusals.{refusalOr}
 use Rattle.rules.specs.Rules.{finest}
 use Rattle.path.specs.Path.{Path, path}
 use Rattle.path.specs.Entries.{entries}
 use Rattle.path.specs.Answer.{measured}
 use Rattle.sheet.specs.Sheet.{Target, Sheet}
-use Rattle.sheet.specs.Reading.{sheetAt, sheetRefusal}
+use Rattle.sheet.specs.Records.{sheetAt}
+use Rattle.sheet.specs.Reading.{sheetRefusal}
 use Rattle.listing_text.specs.declared.Output.{Output}
 use Rattle.listing_text.specs.Lines.{pathsLine, pathLine, entryLines, refusedLine}
 
@@ -26,13 +28,9 @@ pathsText s i (t ∷ ts) = pathText i (pathOf s t) ++ pathsText s (i + 1) ts
 unfoldable pub sheetText : Sheet → List ℕ
 sheetText s = pathsLine (length (s .paths)) ++ pathsText s 0 (s .paths)
 
-abbrev pub listed : ℕ → Sheet → List ℕ
-listed zero s = sheetText s
-listed (suc k) s = refusedLine (suc k)
-
 -- the listing of the bytes of standard input
 unfoldable pub listing : List ℕ → List ℕ
-listing b = listed (sheetRefusal b) (sheetAt b)
+listing b = refusalOr (sheetRefusal b) refusedLine (sheetText (sheetAt b))
 
 -- what printing it answers: by what number the sheet is refused, and how many bytes were printed
 unfoldable pub output : List ℕ → Output

@@ -5,16 +5,18 @@ use mathlib.Core.List.{List, [], _∷_, _++_, map, tail}
 use Prim.Native.Nat.{ℕ, zero, suc, _+_, _-_, _*_, _^_, _≤_, _<_, min}
 use mathlib.Core.Path.{_≡_}
 use lib.Dec.{ltb}
-use lib.IntN.{ℤ, pos}
-use lib.ListN.{length, getD}
+use lib.IntN.{ℤ}
+use lib.ListN.{length}
+use Rattle.rules.specs.Refusals.{refusalOr}
 use Rattle.rules.specs.Rules.{finest}
 use Rattle.entries.specs.declared.Entry.{Entry}
-use Rattle.entries.specs.Entries.{entrySize}
+use Rattle.entries.specs.Entries.{entrySize, entriesIn}
 use Rattle.path.specs.Path.{Path}
 use Rattle.path.specs.Entries.{entries}
 use Rattle.path.specs.Joined.{alone, shifted}
 use Rattle.path.specs.Answer.{measured, drawRefusal}
-use Rattle.sheet.specs.Writing.{numberAt, pathAt, pathEnd, sheetOf}
+use Rattle.sheet.specs.Sheet.{listHead}
+use Rattle.sheet.specs.NumberList.{numberAt, pathAt, pathEnd, sheetOf}
 use Rattle.listing_text.specs.declared.Place.{Place}
 use Rattle.listing_text.specs.Lines.{pathLine, entryLines}
 use Rattle.listing_text.specs.Listing.{pathOf}
@@ -29,13 +31,13 @@ segmentAt l q = alone (pathIn l (q .at)) (q .segment)
 
 -- ---- the entries of a segment
 
--- a segment's list by itself, as far as it can be drawn into a list of `room` numbers
-abbrev pub drawnFor : ℕ → List Entry → List Entry
-drawnFor zero es = es
-drawnFor (suc k) es = []
+-- the numbers of a segment's list: it has at most 2^F + 1 entries
+abbrev pub segmentNumbers : ℕ
+segmentNumbers = entrySize * (2 ^ finest + 1)
 
+-- a segment's list by itself, as far as it can be drawn into a list of `room` numbers
 unfoldable pub segmentEntries : Path → ℕ → ℕ → List Entry
-segmentEntries p k room = drawnFor (drawRefusal finest (alone p k) room) (entries finest (alone p k))
+segmentEntries p k room = refusalOr (drawRefusal finest (alone p k) room) (λ _. []) (entries finest (alone p k))
 
 -- without its start, but for the first segment
 abbrev pub joining : ℕ → List Entry → List Entry
@@ -46,24 +48,15 @@ joining (suc k) es = tail es
 unfoldable pub added : Path → ℕ → ℕ → List Entry
 added p k room = joining k (map (shifted (2 ^ finest * k)) (segmentEntries p k room))
 
--- n entries of a list of numbers, from entry i on
-abbrev pub entryOf : List ℤ → ℕ → Entry
-entryOf l i =
-    record {
-      position = getD l (entrySize * i) (pos 0);
-      x = getD l (entrySize * i + 1) (pos 0);
-      y = getD l (entrySize * i + 2) (pos 0);
-    }
-
-unfoldable pub entriesIn : List ℤ → ℕ → ℕ → List Entry
-entriesIn l i zero = []
-entriesIn l i (suc n) = entryOf l i ∷ entriesIn l (i + 1) n
-
 -- ---- the text
 
 -- entries `from` to `count` of a list of numbers, as those of segment k
 abbrev pub linesIn : List ℤ → ℕ → ℕ → ℕ → List ℕ
 linesIn list from count k = entryLines (map (shifted (2 ^ finest * k)) (entriesIn list from (count - from)))
+
+-- no piece is longer
+abbrev pub textSize : ℕ
+textSize = 65536
 
 -- the path's line before its first segment
 abbrev pub heading : ℕ → ℕ → Path → List ℕ
@@ -82,6 +75,10 @@ nextPlace l q =
     cond (ltb (q .segment + 1) (numberAt l (q .at)))
     (record { path = q .path; at = q .at; segment = q .segment + 1 })
     (record { path = q .path + 1; at = min (pathEnd l (q .at)) (length l); segment = 0 })
+
+-- the first path's first segment
+abbrev pub firstPlace : Place
+firstPlace = record { path = 0; at = listHead; segment = 0 }
 
 -- ---- the pieces of N paths, from a place on: the places that are reached one after another, until the last path has been listed
 

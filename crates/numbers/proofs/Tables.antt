@@ -16,3 +16,7 @@ all-append P (x ∷ xs) ys h k = (h .0, all-append P xs ys (h .1) k)
 pub all-map : {A B : Type 0} (P : B → Type 0) (f : A → B) (xs : List A) → All (λ x. P (f x)) xs → All P (map f xs)
 all-map P f [] h = tt
 all-map P f (x ∷ xs) h = (h .0, all-map P f xs (h .1))
+
+pub all-weaker : {A : Type 0} {P Q : A → Type 0} → ((x : A) → P x → Q x) → (xs : List A) → All P xs → All Q xs
+all-weaker f [] h = tt
+all-weaker f (x ∷ xs) h = (f x (h .0), all-weaker f xs (h .1))
