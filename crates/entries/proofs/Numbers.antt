@@ -1,8 +1,8 @@
 -- Entries as numbers: in the document's order, and a list that was written is read back.
 use mathlib.Core.Path.{_≡_, refl, sym, ap, ap₂, _∙_}
 use mathlib.Core.List.{List, [], _∷_, _++_}
-use mathlib.Core.Option.{Option, none, some}
-use Prim.Native.Nat.{ℕ, zero, suc, _+_, _*_, _/_, _<_}
+use mathlib.Core.Option.{Option, none, some, Option·some-ne-none}
+use Prim.Native.Nat.{ℕ, zero, suc, _+_, _*_, _/_, _≤_, _<_}
 use native.Mathlib.Nat.{add-zero, zero-add, le-of-suc-le-suc, not-suc-le-zero}
 use native.Mathlib.Omega.{arith}
 use lib.IntN.{ℤ, pos}
@@ -61,13 +61,19 @@ entry-in l k (suc n) (suc i) e h =
     let next : k + suc i ≡ k + 1 + i = omega arith in
     ap (entryOf l) next ∙ entry-in l (k + 1) n i e (le-of-suc-le-suc h)
 
-pub entry-of-flat : (es : List Entry) (after : List ℤ) (i : ℕ) (e : Entry) → i < length es → entryAt (flat es ++ after) i ≡ some (getD es i e)
+-- where the list reaches that far
+pub entry-there : (l : List ℤ) (i : ℕ) → entrySize * i + entrySize ≤ length l → entryAt l i ≡ some (entryOf l i)
 unfolding entryAt
+entry-there l i h =
+    let inside : i < length l / entrySize = omega arith in
+    rw (lt-ltb i _ inside)
+
+pub entry-of-flat : (es : List Entry) (after : List ℤ) (i : ℕ) (e : Entry) → i < length es → entryAt (flat es ++ after) i ≡ some (getD es i e)
 entry-of-flat es after i e h =
-    let inside : i < length (flat es ++ after) / entrySize = simp (length-append, length-flat) (omega arith) in
+    let inside : entrySize * i + entrySize ≤ length (flat es ++ after) = simp (length-append, length-flat) (omega arith) in
     let back : entryOf (flat es ++ after) i ≡ getD es i e =
     ap (entryOf (flat es ++ after)) (sym (zero-add i)) ∙ entry-in (flat es ++ after) 0 (length es) i e h ∙ ap (λ (fs : List Entry). getD fs i e) (entries-back es after) in
-    rw (lt-ltb i _ inside, back)
+    entry-there (flat es ++ after) i inside ∙ ap some back
 
 -- ---- what `found` gives of an answer determines the answer
 
@@ -81,3 +87,12 @@ found-determines r r' e = sym (meant-found r) ∙ ap meant e ∙ meant-found r'
     meant-found : (r : Found) → meant (found r) ≡ r
     meant-found (Here e) = refl
     meant-found Outside = refl
+
+-- ---- an answer, where the list reaches that far
+
+module _ (l : List ℤ) (i : ℕ) (h : entrySize * i + entrySize ≤ length l) {r : Found} (f : found r ≡ entryAt l i) where
+  pub here-is : {e : Entry} → r ≡ Here e → e ≡ entryOf l i
+  here-is {e} q = let same : some e ≡ some (entryOf l i) = sym (ap found q) ∙ f ∙ entry-there l i h in cc
+
+  pub never-outside : r ≡ Outside → ⊥
+  never-outside q = Option·some-ne-none (entryOf l i) (sym (entry-there l i h) ∙ sym f ∙ ap found q)

@@ -5,5 +5,5 @@ use libc::STDIN_FILENO;
 fn main() {
     let mut sheet = [0u8; 32769];
     let count = io::read_full(STDIN_FILENO, &mut sheet);
-    listing_text::print(&sheet[..count]);
+    printing::print(&sheet[..count]);
 }

@@ -36,7 +36,7 @@ fn list_sheet(sheet: &mut [u8], size: usize) -> bool
     if io::read_full(STDIN_FILENO, &mut sheet[..size]) < size {
         return false;
     }
-    listing_text::print(&sheet[..size]);
+    printing::print(&sheet[..size]);
     true
 }
 

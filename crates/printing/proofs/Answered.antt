@@ -1,4 +1,4 @@
--- What reading a sheet into 16,384 numbers leaves to be printed, and what printing then answers.
+-- What reading a sheet into room for every sheet leaves to be printed, and what printing then answers.
 use mathlib.Core.Path.{_≡_, refl, sym, ap, _∙_}
 use mathlib.Core.List.{List, _++_}
 use Prim.Native.Nat.{ℕ, zero, suc, _≤_}
@@ -7,21 +7,24 @@ use lib.IntN.{ℤ}
 use lib.ListN.{length, take, drop, length-append}
 use Rattle.sheet.specs.declared.Written.{Written}
 use Rattle.sheet.specs.Bytes.{Bytes}
-use Rattle.sheet.specs.Sheet.{sheetBytes, sheetNumbers, Right}
-use Rattle.sheet.specs.Reading.{sheetAt, sheetRefusal}
-use Rattle.sheet.specs.Writing.{sheetOf, listRefusal}
+use Rattle.sheet.specs.Sheet.{mostNumbers, sheetBytes, sheetNumbers, Right}
+use Rattle.sheet.specs.Records.{sheetAt}
+use Rattle.sheet.specs.Reading.{sheetRefusal}
+use Rattle.sheet.specs.NumberList.{sheetOf}
+use Rattle.sheet.specs.Writing.{listRefusal}
 use Rattle.sheet.specs.Answer.{readAnswer, numbersRead}
 use Rattle.sheet.proofs.Room.{front-answered}
 use Rattle.sheet.proofs.WritesBack.{writes-back}
 use Rattle.sheet.proofs.RoundTrips.{read-accepted, right-read}
 use Rattle.text.specs.Reached.{reached}
 use Rattle.listing_text.specs.Lines.{refusedWord, end, named, refusedLine}
+use Rattle.listing_text.specs.Pieces.{textSize}
 use Rattle.listing_text.specs.Listing.{sheetText, listing, output}
-use Rattle.listing_text.proofs.Whole.{refused-by-the-sheet, refused-short}
-use Rattle.listing_text.proofs.Coming.{all-of}
+use Rattle.listing_text.proofs.Refused.{refused-by-the-sheet, refused-short}
+use Rattle.printing.proofs.Coming.{all-of}
 
 module _
-    (b : List ℕ) (bs : Bytes b) (numbers : List ℤ) (room : length numbers ≡ 16384) {w : Written} (e : w ≡ readAnswer b (length numbers))
+    (b : List ℕ) (bs : Bytes b) (numbers : List ℤ) (room : length numbers ≡ mostNumbers) {w : Written} (e : w ≡ readAnswer b (length numbers))
   where
     refusal-is : w .refusal ≡ sheetRefusal b
     refusal-is = ap (λ (v : Written). v .refusal) e ∙ ap (λ (n : ℕ). readAnswer b n .refusal) room ∙ refused-by-the-sheet b bs
@@ -47,7 +50,7 @@ module _
       pub count-inside : w .count ≤ length after
       count-inside = rw (numbers-are .0, numbers-are .1, length-append) (omega arith)
 
-      pub numbers-accepted : (listRefusal (take (w .count) after) ≡ 0) × (length (take (w .count) after) ≤ 16384)
+      pub numbers-accepted : (listRefusal (take (w .count) after) ≡ 0) × (length (take (w .count) after) ≤ mostNumbers)
       numbers-accepted = rw numbers-taken (writes-back (sheetAt b) (right .0) .1, omega (arith, right .2, room))
 
       pub accepted-output : {count : ℕ} → count ≡ length (sheetText (sheetOf (take (w .count) after)))
@@ -59,7 +62,7 @@ module _
 
     -- ---- a refused one: its line
 
-    pub refused-output : (w .refusal ≡ 0 → ⊥) → {count : ℕ} (t : List ℕ) → length t ≡ 65536
+    pub refused-output : (w .refusal ≡ 0 → ⊥) → {count : ℕ} (t : List ℕ) → length t ≡ textSize
         → count ≡ reached t 0 (named refusedWord (w .refusal) ++ end) → record { refusal = w .refusal; count = count } ≡ output b
     unfolding output listing refusedLine
     refused-output h t size n = rw (n, refusal-is) (of (sheetRefusal b) refl (λ z. h (refusal-is ∙ z)))

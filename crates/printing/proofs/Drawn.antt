@@ -1,5 +1,5 @@
 -- A segment's list as it was drawn into a lent list, read back an entry at a time: whole, and as what the segment adds to its path.
-use mathlib.Core.Path.{_≡_, refl, ap, ap₂, _∙_}
+use mathlib.Core.Path.{_≡_, refl, ap, _∙_}
 use mathlib.Core.List.{List, [], _∷_, _++_, map, tail}
 use Prim.Native.Nat.{ℕ, zero, suc, _+_, _-_, _*_, _^_, _≤_}
 use native.Mathlib.Nat.{sub-zero}
@@ -7,40 +7,31 @@ use native.Mathlib.Numerals.{sub-one}
 use native.Mathlib.Omega.{arith}
 use lib.IntN.{ℤ}
 use lib.ListN.{length, drop, length-append}
-use Rattle.rules.specs.Rules.{finest, filled}
+use Rattle.rules.specs.Refusals.{refusalOr, filled}
+use Rattle.rules.specs.Rules.{finest}
 use Rattle.entries.specs.declared.Entry.{Entry}
-use Rattle.entries.specs.Entries.{entrySize, flat}
-use Rattle.entries.proofs.Laws.{length-flat}
+use Rattle.entries.specs.Entries.{entrySize, flat, entriesIn}
+use Rattle.entries.proofs.Numbers.{length-flat, entries-back}
+use Rattle.path.specs.declared.Drawn.{Drawn}
 use Rattle.path.specs.Path.{Path}
 use Rattle.path.specs.Entries.{entries}
 use Rattle.path.specs.Joined.{alone, shifted}
-use Rattle.path.specs.Answer.{drawRefusal, answered, drawn, written}
-use Rattle.listing_text.specs.Pieces.{drawnFor, segmentEntries, added, entriesIn}
+use Rattle.path.specs.Answer.{drawRefusal, refusedBy, answer, drawn, written}
+use Rattle.listing_text.specs.Pieces.{segmentEntries, added}
 
 -- ---- entries read from a list
-
--- past the first entry
-entries-further : (x y z : ℤ) (l : List ℤ) (i n : ℕ) → entriesIn (x ∷ y ∷ z ∷ l) (i + 1) n ≡ entriesIn l i n
-unfolding entriesIn
-entries-further x y z l i zero = refl
-entries-further x y z l i (suc n) =
-    let position : entrySize * (i + 1) ≡ suc (suc (suc (entrySize * i))) = omega arith in
-    let across : entrySize * (i + 1) + 1 ≡ suc (suc (suc (entrySize * i + 1))) = omega arith in
-    let down : entrySize * (i + 1) + 2 ≡ suc (suc (suc (entrySize * i + 2))) = omega arith in
-    ap₂ _∷_ (rw (down, across, position)) (entries-further x y z l (i + 1) n)
-
--- a list that was written is read back
-pub entries-back : (es : List Entry) (after : List ℤ) → entriesIn (flat es ++ after) 0 (length es) ≡ es
-unfolding entriesIn flat
-entries-back [] after = refl
-entries-back (e ∷ es) after =
-    ap (λ (fs : List Entry). e ∷ fs) (entries-further (e .position) (e .x) (e .y) (flat es ++ after) 0 (length es) ∙ entries-back es after)
 
 -- all but the first
 entries-tail : (l : List ℤ) (n : ℕ) → entriesIn l 1 (n - 1) ≡ tail (entriesIn l 0 n)
 unfolding entriesIn
 entries-tail l zero = refl
 entries-tail l (suc n) = rw sub-one
+
+-- ---- the same path in other words
+
+pub drawn-same : {p p' : Path} {d : Drawn} {after : List ℤ} (list : List ℤ) → p ≡ p'
+    → d ≡ drawn finest p (length list) → after ≡ written finest p list → (d ≡ drawn finest p' (length list)) × (after ≡ written finest p' list)
+drawn-same list e a b = (a ∙ ap (λ p. drawn finest p (length list)) e, b ∙ ap (λ p. written finest p list) e)
 
 -- ---- a segment that was drawn; one that is refused has no entries
 
@@ -49,7 +40,7 @@ pub segment-read : (p : Path) (k : ℕ) (list : List ℤ)
 unfolding written drawn segmentEntries entriesIn
 segment-read p k list = by-number (drawRefusal finest (alone p k) (length list)) (entries finest (alone p k))
   where
-    by-number : (r : ℕ) (es : List Entry) → entriesIn (filled r (flat es) list) 0 (answered r es .points) ≡ drawnFor r es
+    by-number : (r : ℕ) (es : List Entry) → entriesIn (filled r (flat es) list) 0 (refusalOr r refusedBy (answer es) .points) ≡ refusalOr r (λ _. []) es
     by-number zero es = entries-back es (drop (length (flat es)) list)
     by-number (suc r) es = refl
 
@@ -58,7 +49,7 @@ pub segment-inside : (p : Path) (k : ℕ) (list : List ℤ)
 unfolding written drawn
 segment-inside p k list = by-number (drawRefusal finest (alone p k) (length list)) (entries finest (alone p k))
   where
-    by-number : (r : ℕ) (es : List Entry) → entrySize * answered r es .points ≤ length (filled r (flat es) list)
+    by-number : (r : ℕ) (es : List Entry) → entrySize * refusalOr r refusedBy (answer es) .points ≤ length (filled r (flat es) list)
     by-number zero es = rw (length-append, length-flat) (omega arith)
     by-number (suc r) es = omega arith
 

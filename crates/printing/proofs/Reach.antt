@@ -14,8 +14,9 @@ use Rattle.rules.specs.Rules.{degree, coordinates, pointNumbers}
 use Rattle.path.specs.Path.{Path, path}
 use Rattle.path.specs.Joined.{alone}
 use Rattle.path.proofs.Turns.{by-test}
-use Rattle.sheet.specs.Writing.{numberAt, pathAt, pathEnd, sheetOf}
+use Rattle.sheet.specs.Sheet.{pathHead}
+use Rattle.sheet.specs.NumberList.{numberAt, pathAt, pathEnd, sheetOf}
 use Rattle.listing_text.specs.Pieces.{pathIn}
 
 cut : (a m : ℕ) → m ≤ a → min a m ≡ m
 cut a m h = min-eq-right h
@@ -61,18 +62,19 @@ module _ {A : Type 0} (l : List A) (a n : ℕ) where
 
 -- the points of segment k of a path's points
 pub segment-part : (points : List ℤ) (k level upper lower from to : ℕ)
-    → from ≡ min (6 * k) (length points) → to ≡ min (from + 8) (length points)
+    → from ≡ min (coordinates * (degree * k)) (length points) → to ≡ min (from + coordinates * (degree + 1)) (length points)
     → path (take (to - from) (drop from points)) 1 level upper lower ≡ alone (path points 1 level upper lower) k
 unfolding alone
 segment-part points k level upper lower from to f t =
-    let start : 6 * k ≡ coordinates * (degree * k) = omega arith in
-    rw (t, f, cut-again (6 * k) 8 (length points), part-reached points (6 * k) 8, start)
+    let start = coordinates * (degree * k) in
+    let size = coordinates * (degree + 1) in
+    rw (t, f, cut-again start size (length points), part-reached points start size)
 
 -- the path whose numbers start at `at`, by the numbers read one by one
-module _ (l : List ℤ) (at : ℕ) {from to : ℕ} (f : from ≡ min (at + 2) (length l)) (t : to ≡ min (pathEnd l at) (length l)) where
+module _ (l : List ℤ) (at : ℕ) {from to : ℕ} (f : from ≡ min (at + pathHead) (length l)) (t : to ≡ min (pathEnd l at) (length l)) where
   points-read : take (to - from) (drop from l) ≡ pathAt l at .points
   unfolding pathAt
-  points-read = rw (t, f, part-reached l (at + 2) (pointNumbers (numberAt l at)))
+  points-read = rw (t, f, part-reached l (at + pathHead) (pointNumbers (numberAt l at)))
 
   pub path-by-numbers : {S level upper lower : ℕ}
       → S ≡ numberAt l at → level ≡ numberAt l (at + 1) → upper ≡ numberAt l 1 → lower ≡ numberAt l 2

@@ -7,10 +7,11 @@ use lib.IntN.{ℤ}
 use lib.ListN.{length}
 use lib.Seq.{length-take-le}
 use Rattle.sheet.specs.Bytes.{Bytes}
-use Rattle.listing_text.proofs.Answered.{count-inside, numbers-accepted, accepted-output, refused-output}
+use Rattle.sheet.specs.Sheet.{mostNumbers}
+use Rattle.printing.proofs.Answered.{count-inside, numbers-accepted, accepted-output, refused-output}
 use borrow.Author.Needs.{needs}
-use Rattle.listing_text.proofs.print.Statement.{statement}
-use Rattle.listing_text.proofs.print.Tie as tie
+use Rattle.printing.proofs.print.Statement.{statement}
+use Rattle.printing.proofs.print.Tie as tie
 
 abbrev sheet : tie.After-read → List ℕ
 sheet r = r .before .before .before .before .before .args .sheet .now
@@ -21,7 +22,7 @@ bytes r = record { byte = λ i. omega (arith, r .before .before .before .before 
 abbrev numbers : tie.After-read → List ℤ
 numbers r = r .before .before .before .number-buffer .result
 
-room : (r : tie.After-read) → length (numbers r) ≡ 16384
+room : (r : tie.After-read) → length (numbers r) ≡ mostNumbers
 room r = sym (r .before .before .before .number-buffer .ensures)
 
 number-buffer-requires : tie.Need-number-buffer-requires

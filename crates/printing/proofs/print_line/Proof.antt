@@ -4,8 +4,8 @@ use mathlib.Core.List.{[], _∷_}
 use lib.Seq.{length-take-le}
 use Rattle.text.proofs.Pieces.{put-both, put-inside}
 use borrow.Author.Needs.{needs}
-use Rattle.listing_text.proofs.print_line.Statement.{statement}
-use Rattle.listing_text.proofs.print_line.Tie as tie
+use Rattle.printing.proofs.print_line.Statement.{statement}
+use Rattle.printing.proofs.print_line.Tie as tie
 
 put-named-requires : tie.Need-put-named-requires
 put-named-requires c κs = search needs

@@ -8,15 +8,15 @@ use lib.Dec.{ltb}
 use lib.IntN.{ℤ}
 use lib.ListN.{length}
 use lib.Seq.{length-sets}
-use Rattle.sheet.specs.Writing.{numberAt, sheetOf}
+use Rattle.sheet.specs.NumberList.{numberAt, sheetOf}
 use Rattle.path.proofs.Turns.{by-test}
 use Rattle.listing_text.specs.declared.Place.{Place}
 use Rattle.listing_text.specs.Lines.{pathsWord, end, named}
 use Rattle.listing_text.specs.Listing.{sheetText}
-use Rattle.listing_text.specs.Pieces.{nextPlace}
-use Rattle.listing_text.proofs.Coming.{Coming, coming-end, starts-inside, list-small, line-counted, piece-counted}
-use Rattle.listing_text.proofs.print_paths.Statement.{statement}
-use Rattle.listing_text.proofs.print_paths.Tie as tie
+use Rattle.listing_text.specs.Pieces.{segmentNumbers, textSize, nextPlace}
+use Rattle.printing.proofs.Coming.{Coming, coming-end, starts-inside, list-small, line-counted, piece-counted}
+use Rattle.printing.proofs.print_paths.Statement.{statement}
+use Rattle.printing.proofs.print_paths.Tie as tie
 
 -- falls with every turn
 abbrev left : ℕ → Place → ℕ
@@ -32,7 +32,7 @@ next-inside l q h = by-test (ltb (q .segment + 1) (numberAt l (q .at))) (λ e. r
 
 abbrev Inv-loop : tie.InvT-loop
 Inv-loop numbers list₀ text₀ paths count₀ place₀ list text count place =
-    (place .at ≤ length numbers) × (length list ≡ 6147) × (length text ≡ 65536)
+    (place .at ≤ length numbers) × (length list ≡ segmentNumbers) × (length text ≡ textSize)
     × Coming numbers paths (length (sheetText (sheetOf numbers))) place count
 
 abbrev μ-loop : tie.MeasureT-loop

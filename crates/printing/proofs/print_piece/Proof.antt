@@ -2,10 +2,10 @@
 use mathlib.Core.Path.{sym}
 use lib.Seq.{length-take-le}
 use Rattle.text.proofs.Pieces.{put-inside}
 use Rattle.listing_text.specs.Pieces.{pieceText}
 use borrow.Author.Needs.{needs}
-use Rattle.listing_text.proofs.print_piece.Statement.{statement}
-use Rattle.listing_text.proofs.print_piece.Tie as tie
+use Rattle.printing.proofs.print_piece.Statement.{statement}
+use Rattle.printing.proofs.print_piece.Tie as tie
 
 piece-at-requires : tie.Need-piece-at-requires
 piece-at-requires c κs = search needs

@@ -1,9 +1,9 @@
 -- Three words with their numbers, and the end of the line.
 use Rattle.text.proofs.Pieces.{put-both}
 use Rattle.listing_text.specs.Lines.{pathLine}
 use borrow.Author.Needs.{needs}
-use Rattle.listing_text.proofs.path_line.Statement.{statement}
-use Rattle.listing_text.proofs.path_line.Tie as tie
+use Rattle.printing.proofs.lines.path_line.Statement.{statement}
+use Rattle.printing.proofs.lines.path_line.Tie as tie
 
 slice-aggregate-put-named : tie.Need-slice-aggregate-put-named
 slice-aggregate-put-named c = search needs

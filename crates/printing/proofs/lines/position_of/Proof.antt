@@ -9,8 +9,8 @@ use Rattle.numbers.proofs.Machine.{Num, field, literal, local, plus, times, fit
 use Rattle.entries.proofs.Fitting.{told}
 use Rattle.path.specs.Joined.{shifted}
 use borrow.Author.Needs.{needs}
-use Rattle.listing_text.proofs.position_of.Statement.{statement}
-use Rattle.listing_text.proofs.position_of.Tie as tie
+use Rattle.printing.proofs.lines.position_of.Statement.{statement}
+use Rattle.printing.proofs.lines.position_of.Tie as tie
 
 abbrev k : (c : tie.After-struct-told) → Num 4294967295 (pos (c .before .before .args .k))
 k c =

@@ -6,10 +6,10 @@ use Rattle.numbers.proofs.Machine.{reads-back, widens, signed}
 use Rattle.entries.proofs.Fitting.{told}
 use Rattle.path.specs.Joined.{shifted}
 use Rattle.text.proofs.Pieces.{put-as, put-both}
 use Rattle.listing_text.specs.Lines.{space, end, followed, entryLine}
 use borrow.Author.Needs.{needs}
-use Rattle.listing_text.proofs.put_entry.Statement.{statement}
-use Rattle.listing_text.proofs.put_entry.Tie as tie
+use Rattle.printing.proofs.lines.put_entry.Statement.{statement}
+use Rattle.printing.proofs.lines.put_entry.Tie as tie
 
 position-of-requires : tie.Need-position-of-requires
 position-of-requires c κs = search needs

@@ -3,10 +3,10 @@ use mathlib.Core.Path.{ap}
 use mir.Facts.{toZ-ofZ}
 use Rattle.text.specs.Decimal.{numeral}
 use Rattle.text.proofs.Pieces.{put-as, put-both}
 use Rattle.listing_text.specs.Lines.{followed}
 use borrow.Author.Needs.{needs}
-use Rattle.listing_text.proofs.put_followed.Statement.{statement}
-use Rattle.listing_text.proofs.put_followed.Tie as tie
+use Rattle.printing.proofs.lines.put_followed.Statement.{statement}
+use Rattle.printing.proofs.lines.put_followed.Tie as tie
 
 put-number-requires : tie.Need-put-number-requires
 put-number-requires c κs = search needs

@@ -1,9 +1,9 @@
 -- The word, and then its number.
 use borrow.Author.Needs.{needs}
 use Rattle.text.proofs.Pieces.{put-both}
 use Rattle.listing_text.specs.Lines.{named}
-use Rattle.listing_text.proofs.put_named.Statement.{statement}
-use Rattle.listing_text.proofs.put_named.Tie as tie
+use Rattle.printing.proofs.lines.put_named.Statement.{statement}
+use Rattle.printing.proofs.lines.put_named.Tie as tie
 
 put-requires : tie.Need-put-requires
 put-requires c κs = search needs

@@ -1,22 +1,27 @@
 -- What is cut out of the points is the segment by itself.
-use mathlib.Core.Path.{ap, _∙_}
-use lib.ListN.{length}
-use Rattle.rules.specs.Rules.{finest}
-use Rattle.path.specs.Path.{Path}
-use Rattle.path.specs.Answer.{drawn, written}
-use Rattle.listing_text.proofs.Reach.{segment-part}
+use Rattle.printing.proofs.Reach.{segment-part}
+use Rattle.printing.proofs.Drawn.{drawn-same}
 use borrow.Author.Needs.{needs}
-use Rattle.listing_text.proofs.draw_alone.Statement.{statement}
-use Rattle.listing_text.proofs.draw_alone.Tie as tie
+use Rattle.printing.proofs.pieces.draw_alone.Statement.{statement}
+use Rattle.printing.proofs.pieces.draw_alone.Tie as tie
 
 mul-least : tie.Need-mul-least
 mul-least c = search needs
+
+mul-least-2 : tie.Need-mul-least-2
+mul-least-2 c = search needs
 
 least-requires : tie.Need-least-requires
 least-requires c κs = search needs
 
 add-least : tie.Need-add-least
 add-least c = search needs
+
+mul-least-3 : tie.Need-mul-least-3
+mul-least-3 c = search needs
+
+add-least-2 : tie.Need-add-least-2
+add-least-2 c = search needs
 
 least-requires-2 : tie.Need-least-requires-2
 least-requires-2 c κs = search needs
@@ -43,20 +48,20 @@ returns : tie.Need-returns
 returns c =
     let d = c .before in
     let a = d .before .before .before .before .before .args in
-    let l = a .list .now in
     let to = d .before .before .before in
-    let part = segment-part (a .points .now) (a .k) (a .level) (a .upper) (a .lower) _ _ in
-    let same = part (to .before .least .ensures) (to .least2 .ensures) in
-    let answer = ap (λ (p : Path). drawn finest p (length l)) same in
-    (d .draw .ensures .0 ∙ answer, d .draw .ensures .1 ∙ ap (λ (p : Path). written finest p l) same)
+    let same = segment-part (a .points .now) (a .k) (a .level) (a .upper) (a .lower) _ _ (to .before .least .ensures) (to .least2 .ensures) in
+    drawn-same (a .list .now) same (d .draw .ensures .0) (d .draw .ensures .1)
 
 pub draw-alone-spec : {M : Type 1} → statement M
 draw-alone-spec =
     tie.close
     (tie.spec
     mul-least
+    mul-least-2
     least-requires
     add-least
+    mul-least-3
+    add-least-2
     least-requires-2
     mul-draw
     sub-draw

@@ -1,13 +1,9 @@
 -- The numbers of the path are read where they stand, and its points as far as the list reaches.
-use mathlib.Core.Path.{ap, _∙_}
-use lib.ListN.{length}
-use Rattle.rules.specs.Rules.{finest}
-use Rattle.path.specs.Path.{Path}
-use Rattle.path.specs.Answer.{drawn, written}
-use Rattle.listing_text.proofs.Reach.{segment-by-numbers}
+use Rattle.printing.proofs.Drawn.{drawn-same}
+use Rattle.printing.proofs.Reach.{segment-by-numbers}
 use borrow.Author.Needs.{needs}
-use Rattle.listing_text.proofs.draw_segment.Statement.{statement}
-use Rattle.listing_text.proofs.draw_segment.Tie as tie
+use Rattle.printing.proofs.pieces.draw_segment.Statement.{statement}
+use Rattle.printing.proofs.pieces.draw_segment.Tie as tie
 
 points-start-requires : tie.Need-points-start-requires
 points-start-requires c κs = search needs
@@ -56,9 +52,7 @@ returns c =
     let same =
     segment-by-numbers (a .numbers .now) (a .place .at) (to .before .points-start .ensures)
     (to .points-end .ensures) (a .place .segment) (level .number-at .ensures) (upper .number-at2 .ensures) (lower .number-at3 .ensures) in
-    let l = a .list .now in
-    let answer = ap (λ (p : Path). drawn finest p (length l)) same in
-    (d .draw-alone .ensures .0 ∙ answer, d .draw-alone .ensures .1 ∙ ap (λ (p : Path). written finest p l) same)
+    drawn-same (a .list .now) same (d .draw-alone .ensures .0) (d .draw-alone .ensures .1)
 
 pub draw-segment-spec : {M : Type 1} → statement M
 draw-segment-spec =

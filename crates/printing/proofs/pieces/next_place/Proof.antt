@@ -2,11 +2,11 @@
 use Prim.Native.Nat.{_+_}
 use native.Mathlib.Omega.{arith}
 use borrow.Author.Tests.{lt-ltb, le-ltb}
-use Rattle.sheet.specs.Writing.{numberAt}
+use Rattle.sheet.specs.NumberList.{numberAt}
 use Rattle.listing_text.specs.Pieces.{nextPlace}
 use borrow.Author.Needs.{needs}
-use Rattle.listing_text.proofs.next_place.Statement.{statement}
-use Rattle.listing_text.proofs.next_place.Tie as tie
+use Rattle.printing.proofs.pieces.next_place.Statement.{statement}
+use Rattle.printing.proofs.pieces.next_place.Tie as tie
 
 number-at-requires : tie.Need-number-at-requires
 number-at-requires c κs = search needs

@@ -3,10 +3,10 @@ use mathlib.Core.Path.{sym, ap, _∙_}
 use borrow.Author.Needs.{needs}
 use lib.IntN.{pos}
 use lib.ListN.{List·getD-eq-default}
-use Rattle.sheet.specs.Writing.{natural}
-use Rattle.sheet.proofs.Writing.{number-read}
-use Rattle.listing_text.proofs.number_at.Statement.{statement}
-use Rattle.listing_text.proofs.number_at.Tie as tie
+use Rattle.rules.specs.Rules.{natural}
+use Rattle.sheet.proofs.NumberList.{number-read}
+use Rattle.printing.proofs.pieces.number_at.Statement.{statement}
+use Rattle.printing.proofs.pieces.number_at.Tie as tie
 
 mul-natural : tie.Need-mul-natural
 mul-natural c = search needs

@@ -7,19 +7,19 @@ use lib.IntN.{ℤ}
 use lib.ListN.{length}
 use lib.Seq.{length-sets}
 use Rattle.rules.specs.Rules.{finest}
-use Rattle.entries.specs.Entries.{entrySize}
+use Rattle.entries.specs.Entries.{entrySize, entriesIn}
 use Rattle.path.specs.declared.Drawn.{Drawn}
 use Rattle.path.specs.Joined.{alone, shifted}
 use Rattle.path.specs.Answer.{drawn, written}
 use Rattle.text.specs.Reached.{reached}
 use Rattle.text.proofs.Pieces.{Put, put-as, put-both}
 use Rattle.listing_text.specs.declared.Place.{Place}
 use Rattle.listing_text.specs.Lines.{entryLines}
-use Rattle.listing_text.specs.Pieces.{pathIn, entriesIn, heading, pieceText}
-use Rattle.listing_text.proofs.Drawn.{segment-inside, added-read}
+use Rattle.listing_text.specs.Pieces.{pathIn, heading, pieceText}
+use Rattle.printing.proofs.Drawn.{segment-inside, added-read}
 use borrow.Author.Needs.{needs}
-use Rattle.listing_text.proofs.piece_at.Statement.{statement}
-use Rattle.listing_text.proofs.piece_at.Tie as tie
+use Rattle.printing.proofs.pieces.piece_at.Statement.{statement}
+use Rattle.printing.proofs.pieces.piece_at.Tie as tie
 
 -- `d` and `after`: what drawing the segment answers and leaves in the list
 module _ (l : List ℤ) (q : Place) (list : List ℤ) {d : Drawn} {after : List ℤ}

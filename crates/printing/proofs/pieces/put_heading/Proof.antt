@@ -8,12 +8,12 @@ use Rattle.path.specs.Path.{Path}
 use Rattle.path.specs.Answer.{measured}
 use Rattle.text.specs.Reached.{reached}
 use Rattle.text.proofs.Pieces.{put-as}
 use Rattle.listing_text.specs.Lines.{pathLine}
 use Rattle.listing_text.specs.Pieces.{heading}
-use Rattle.listing_text.proofs.Reach.{path-by-numbers}
+use Rattle.printing.proofs.Reach.{path-by-numbers}
 use borrow.Author.Needs.{needs}
-use Rattle.listing_text.proofs.put_heading.Statement.{statement}
-use Rattle.listing_text.proofs.put_heading.Tie as tie
+use Rattle.printing.proofs.pieces.put_heading.Statement.{statement}
+use Rattle.printing.proofs.pieces.put_heading.Tie as tie
 
 heading-first : {k : ℕ} (i : ℕ) (p : Path) → k ≡ 0 → pathLine i (measured finest p) ≡ heading k i p
 heading-first {k} i p e = sym (ap (λ (n : ℕ). heading n i p) e)

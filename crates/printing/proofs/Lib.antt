@@ -1,0 +1,5 @@
+-- Laws of the printing functions.
+pub mod Reach
+pub mod Drawn
+pub mod Coming
+pub mod Answered

@@ -1,0 +1,156 @@
+// A piece of a listing: one segment of a path, after the path's line where it is the first; and the place after it.
+ghost use mathlib.Core.Path.{_≡_};
+ghost use Prim.Native.Nat.{_+_, _≤_, _<_, min};
+ghost use lib.ListN.{length};
+ghost use lib.Seq.{sets};
+ghost use Rattle.rules.specs.Rules.{finest};
+ghost use Rattle.path.specs.Path.{path};
+ghost use Rattle.path.specs.Joined.{alone};
+ghost use Rattle.path.specs.Answer.{drawn, written};
+ghost use Rattle.sheet.specs.Sheet.{mostNumbers, pathHead};
+ghost use Rattle.sheet.specs.NumberList.{numberAt, pathEnd};
+ghost use Rattle.text.specs.Reached.{reached};
+ghost use Rattle.listing_text.specs.Pieces.{segmentAt, headingAt, pieceText, nextPlace};
+use crate::lines::path_line;
+use crate::lines::put_entries;
+use listing_text::Piece;
+use listing_text::Place;
+use path::Drawn;
+use rules::COORDINATES;
+use rules::DEGREE;
+use sheet::PATH_HEAD;
+
+// The piece at a place, from the front of `text` on. The segment's entries are drawn into `list`.
+pub(crate) fn piece_at(numbers: &[i32], place: Place, list: &mut [i32], text: &mut [u8]) -> Piece
+    requires { ⌜ (place .path < 4294967295) × (place .at ≤ length (now numbers)) × (length (now numbers) ≤ mostNumbers) ⌝ }
+    ensures { λ r. ⌜ r .count ≡ reached (now (text .entry)) 0 (pieceText (now (numbers .entry)) place (length (now (list .entry)))) ⌝ }
+    ensures { λ r. ⌜ r .next ≡ nextPlace (now (numbers .entry)) place ⌝ }
+    ensures { λ _. ⌜ now (text .exit) ≡ sets (now (text .entry)) 0 (pieceText (now (numbers .entry)) place (length (now (list .entry)))) ⌝ }
+    ensures { λ _. ⌜ now (list .exit) ≡ written finest (segmentAt (now (numbers .entry)) place) (now (list .entry)) ⌝ }
+{
+    let segment = place.segment;
+    let at = put_heading(numbers, place, text);
+    let drawn = draw_segment(numbers, place, list);
+    let count = put_entries(list, first_entry(segment), drawn.points, segment, text, at);
+    Piece {
+        count: count,
+        next: next_place(numbers, place),
+    }
+}
+
+// Where segment k starts, the path has an entry already but for the first: the end of the segment before.
+fn first_entry(k: u32) -> u32
+    ensures { λ r. ⌜ r ≡ min k 1 ⌝ }
+{
+    if k == 0 { 0 } else { 1 }
+}
+
+// The path's line before its first segment, nothing before the others.
+fn put_heading(numbers: &[i32], place: Place, text: &mut [u8]) -> usize
+    requires { ⌜ (place .at ≤ length (now numbers)) × (length (now numbers) ≤ mostNumbers) ⌝ }
+    ensures { λ r. ⌜ r ≡ reached (now (text .entry)) 0 (headingAt (now (numbers .entry)) place) ⌝ }
+    ensures { λ _. ⌜ now (text .exit) ≡ sets (now (text .entry)) 0 (headingAt (now (numbers .entry)) place) ⌝ }
+{
+    let path = place.path;
+    let at = place.at;
+    if place.segment != 0 {
+        return 0;
+    }
+    let from = points_start(numbers, at);
+    let to = points_end(numbers, at);
+    let whole = drawer::measure(
+        &numbers[from..to],
+        number_at(numbers, at),
+        number_at(numbers, at + 1),
+        number_at(numbers, 1),
+        number_at(numbers, 2),
+    );
+    path_line(path, whole, text)
+}
+
+// Draws the segment at a place as a path of its own.
+fn draw_segment(numbers: &[i32], place: Place, list: &mut [i32]) -> Drawn
+    requires { ⌜ (place .at ≤ length (now numbers)) × (length (now numbers) ≤ mostNumbers) ⌝ }
+    ensures { λ r. ⌜ r ≡ drawn finest (segmentAt (now (numbers .entry)) place) (length (now (list .entry))) ⌝ }
+    ensures { λ _. ⌜ now (list .exit) ≡ written finest (segmentAt (now (numbers .entry)) place) (now (list .entry)) ⌝ }
+{
+    let segment = place.segment;
+    let at = place.at;
+    let from = points_start(numbers, at);
+    let to = points_end(numbers, at);
+    let level = number_at(numbers, at + 1);
+    let upper = number_at(numbers, 1);
+    let lower = number_at(numbers, 2);
+    draw_alone(&numbers[from..to], segment, level, upper, lower, list)
+}
+
+// Draws segment k of a path's points.
+fn draw_alone(points: &[i32], k: u32, level: u32, upper: u32, lower: u32, list: &mut [i32]) -> Drawn
+    requires { ⌜ length (now points) ≤ mostNumbers ⌝ }
+    ensures { λ r. ⌜ r ≡ drawn finest (alone (path (now (points .entry)) 1 level upper lower) k) (length (now (list .entry))) ⌝ }
+    ensures { λ _. ⌜ now (list .exit) ≡ written finest (alone (path (now (points .entry)) 1 level upper lower) k) (now (list .entry)) ⌝ }
+{
+    let from = least(COORDINATES * (DEGREE * k as usize), points.len());
+    let to = least(from + COORDINATES * (DEGREE + 1), points.len());
+    drawer::draw(&points[from..to], 1, level, upper, lower, list)
+}
+
+// The next segment of the path, or the next path.
+fn next_place(numbers: &[i32], place: Place) -> Place
+    requires { ⌜ (place .path < 4294967295) × (place .at ≤ length (now numbers)) × (length (now numbers) ≤ mostNumbers) ⌝ }
+    ensures { λ r. ⌜ r ≡ nextPlace (now (numbers .entry)) place ⌝ }
+{
+    let path = place.path;
+    let at = place.at;
+    let segment = place.segment;
+    let segments = number_at(numbers, at);
+    let following = segment as u64 + 1;
+    if following < segments as u64 {
+        return Place {
+            path: path,
+            at: at,
+            segment: following as u32,
+        };
+    }
+    Place {
+        path: path + 1,
+        at: points_end(numbers, at),
+        segment: 0,
+    }
+}
+
+// ---- the numbers of a path
+
+// A count, a limit, segments or a level: number i of a list, 0 past its end.
+pub(crate) fn number_at(numbers: &[i32], i: usize) -> u32
+    ensures { λ r. ⌜ r ≡ numberAt (now (numbers .entry)) i ⌝ }
+{
+    if i < numbers.len() {
+        return rules::natural(numbers[i]);
+    }
+    0
+}
+
+// Where the points of the path at `at` start and end, as far as the list reaches.
+fn points_start(numbers: &[i32], at: usize) -> usize
+    requires { ⌜ (at ≤ length (now numbers)) × (length (now numbers) ≤ mostNumbers) ⌝ }
+    ensures { λ r. ⌜ r ≡ min (at + pathHead) (length (now (numbers .entry))) ⌝ }
+{
+    least(at + PATH_HEAD, numbers.len())
+}
+
+fn points_end(numbers: &[i32], at: usize) -> usize
+    requires { ⌜ (at ≤ length (now numbers)) × (length (now numbers) ≤ mostNumbers) ⌝ }
+    ensures { λ r. ⌜ r ≡ min (pathEnd (now (numbers .entry)) at) (length (now (numbers .entry))) ⌝ }
+{
+    least(
+        at + PATH_HEAD + rules::point_numbers(number_at(numbers, at)),
+        numbers.len(),
+    )
+}
+
+fn least(a: usize, b: usize) -> usize
+    ensures { λ r. ⌜ r ≡ min a b ⌝ }
+{
+    if a < b { a } else { b }
+}
