@@ -5,9 +5,10 @@ use lib.IntN.{ℤ, pos}
 use lib.ListN.{getD}
 use mir.Syntax.{w32}
 use mir.Val.{ofZ}
-use Rattle.engine.specs.declared.Control.{Control}
+use Rattle.rules.specs.Rules.{coordinates}
+use Rattle.coordinate.specs.declared.Control.{Control}
+use Rattle.coordinate.specs.declared.Registers.{Registers}
 use Rattle.engine.specs.declared.Drawing.{Drawing}
-use Rattle.engine.specs.declared.Registers.{Registers}
 
 abbrev pub wordAt : List ℕ → ℕ → ℕ
 wordAt bytes at =
@@ -24,9 +25,9 @@ abbrev pub controlAt : List ℤ → ℕ → Control
 controlAt words at =
     record {
       p0 = signedAt words at;
-      p1 = signedAt words (at + 2);
-      p2 = signedAt words (at + 4);
-      p3 = signedAt words (at + 6);
+      p1 = signedAt words (at + coordinates);
+      p2 = signedAt words (at + 2 * coordinates);
+      p3 = signedAt words (at + 3 * coordinates);
     }
 
 abbrev pub registersAt : List ℤ → ℕ → Registers

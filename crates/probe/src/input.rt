@@ -2,11 +2,13 @@
 ghost use mathlib.Core.Path.{_≡_};
 ghost use Prim.Native.Nat.{_+_, _*_, _%_, _≤_, _<_};
 ghost use lib.ListN.{length};
+ghost use Rattle.rules.specs.Rules.{degree, coordinates};
 ghost use Rattle.probe.specs.Words.{wordAt, unsignedAt, controlAt, registersAt, drawingIn};
-use engine::Control;
+use coordinate::Control;
+use coordinate::Registers;
 use engine::Drawing;
-use engine::Registers;
 use libc::STDIN_FILENO;
+use rules::COORDINATES;
 
 // Fills `words` from standard input, by way of `bytes`; false where the input ends before.
 pub(crate) fn take_words(bytes: &mut [u8], words: &mut [i32]) -> bool
@@ -43,14 +45,14 @@ pub(crate) fn unsigned_at(words: &[i32], at: usize) -> u32
 
 // One coordinate of the control points x0 y0 x1 y1 x2 y2 x3 y3, x at 0 and y at 1.
 pub(crate) fn control_of(words: &[i32], at: usize) -> Control
-    requires { ⌜ at + 6 < length (now words) ⌝ }
+    requires { ⌜ at + degree * coordinates < length (now words) ⌝ }
     ensures { λ r. ⌜ r ≡ controlAt (now (words .entry)) at ⌝ }
 {
     Control {
         p0: words[at],
-        p1: words[at + 2],
-        p2: words[at + 4],
-        p3: words[at + 6],
+        p1: words[at + COORDINATES],
+        p2: words[at + 2 * COORDINATES],
+        p3: words[at + 3 * COORDINATES],
     }
 }
 

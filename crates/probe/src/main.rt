@@ -16,38 +16,21 @@
 //
 // DRAWING is level q xa xb xc xd ya yb yc yd. BYTES has a byte a word, in its low eight bits. LIST is the `room` places that are lent, which
 // hold -7, or 7 for bytes, before the call.
+mod answers;
 mod input;
 mod output;
 
 ghost use mathlib.Core.Path.{_≡_};
 ghost use Prim.Native.Nat.{_≤_};
 ghost use lib.ListN.{length};
-use engine::Drawing;
-use engine::Moved;
-use input::control_of;
-use input::drawing_of;
-use input::fill_bytes;
-use input::fill_numbers;
-use input::take_bytes;
+use answers::answer;
 use input::take_words;
-use input::unsigned_at;
 use input::word_at;
 use libc::STDIN_FILENO;
-use output::end_line;
-use output::put_bytes;
-use output::put_drawn;
-use output::put_moved;
-use output::put_next;
-use output::put_numbers;
-use output::put_shown;
-use output::put_written;
 use output::refuse;
 
 // The most arguments of a request.
 const MOST_WORDS: u32 = 16400;
-
-// The most places that a request asks for.
-const MOST_ROOM: usize = 16384;
 
 fn main() {
     let mut bytes = byte_buffer();
@@ -113,180 +96,5 @@ fn request(bytes: &mut [u8], words: &mut [i32], list: &mut [i32], text: &mut [u8
     if !answer(code, &words[..size], bytes, list, text) {
         refuse();
     }
-    true
-}
-
-// ---- the answers: each is false where the arguments are not so many as the code takes
-
-fn answer(code: u32, words: &[i32], bytes: &mut [u8], list: &mut [i32], text: &mut [u8]) -> bool
-    requires { ⌜ (length (now words) ≤ 16400) × (65600 ≤ length (now bytes)) × (16384 ≤ length (now list)) ⌝ }
-{
-    match code {
-        1 => answer_start(words, text),
-        2 | 3 | 4 => answer_operation(code, words, text),
-        5 => answer_next(words, text),
-        6 => answer_shown(words, text),
-        7 | 9 | 10 | 11 => answer_in_room(code, words, bytes, list, text),
-        8 => answer_measure(words, text),
-        12 => answer_measure_standard(words, text),
-        13 => answer_next_standard(words, text),
-        _ => false,
-    }
-}
-
-fn answer_start(words: &[i32], text: &mut [u8]) -> bool {
-    if words.len() != 9 {
-        return false;
-    }
-    let x = control_of(words, 0);
-    let y = control_of(words, 1);
-    let level = unsigned_at(words, 8);
-    put_moved(text, Drawing::start(x, y, level));
-    true
-}
-
-fn answer_operation(code: u32, words: &[i32], text: &mut [u8]) -> bool {
-    if words.len() != 10 {
-        return false;
-    }
-    put_moved(text, operate(code, drawing_of(words)));
-    true
-}
-
-fn operate(code: u32, d: Drawing) -> Moved {
-    if code == 2 {
-        return d.halve();
-    }
-    if code == 3 {
-        return d.double();
-    }
-    d.step()
-}
-
-fn answer_next(words: &[i32], text: &mut [u8]) -> bool {
-    if words.len() != 12 {
-        return false;
-    }
-    let upper = unsigned_at(words, 10);
-    let lower = unsigned_at(words, 11);
-    put_next(text, drawing_of(words).next(upper, lower));
-    true
-}
-
-fn answer_next_standard(words: &[i32], text: &mut [u8]) -> bool {
-    if words.len() != 10 {
-        return false;
-    }
-    put_next(text, drawing_of(words).next_standard());
-    true
-}
-
-fn answer_shown(words: &[i32], text: &mut [u8]) -> bool {
-    if words.len() != 10 {
-        return false;
-    }
-    put_shown(text, drawing_of(words).shown());
-    true
-}
-
-fn answer_measure(words: &[i32], text: &mut [u8]) -> bool {
-    if words.len() < 4 {
-        return false;
-    }
-    let segments = unsigned_at(words, 0);
-    let level = unsigned_at(words, 1);
-    let upper = unsigned_at(words, 2);
-    let lower = unsigned_at(words, 3);
-    let at = put_drawn(
-        text,
-        path::measure(&words[4..], segments, level, upper, lower),
-    );
-    end_line(text, at);
-    true
-}
-
-fn answer_measure_standard(words: &[i32], text: &mut [u8]) -> bool {
-    if words.len() < 2 {
-        return false;
-    }
-    let segments = unsigned_at(words, 0);
-    let level = unsigned_at(words, 1);
-    let at = put_drawn(text, path::measure_standard(&words[2..], segments, level));
-    end_line(text, at);
-    true
-}
-
-// ---- the answers of the codes whose first argument is the room: only so many places are lent
-
-fn answer_in_room(
-    code: u32,
-    words: &[i32],
-    bytes: &mut [u8],
-    list: &mut [i32],
-    text: &mut [u8],
-) -> bool
-    requires { ⌜ (length (now words) ≤ 16400) × (65600 ≤ length (now bytes)) × (16384 ≤ length (now list)) ⌝ }
-{
-    if words.len() == 0 {
-        return false;
-    }
-    let room = unsigned_at(words, 0) as usize;
-    if MOST_ROOM < room {
-        return false;
-    }
-    let rest = &words[1..];
-    let size = rest.len();
-    match code {
-        7 => answer_draw(rest, &mut list[..room], text),
-        9 => answer_read(rest, &mut bytes[..size], &mut list[..room], text),
-        10 => answer_write(rest, &mut bytes[..room], text),
-        _ => answer_draw_standard(rest, &mut list[..room], text),
-    }
-}
-
-fn answer_draw(words: &[i32], list: &mut [i32], text: &mut [u8]) -> bool {
-    if words.len() < 4 {
-        return false;
-    }
-    let segments = unsigned_at(words, 0);
-    let level = unsigned_at(words, 1);
-    let upper = unsigned_at(words, 2);
-    let lower = unsigned_at(words, 3);
-    fill_numbers(list);
-    let at = put_drawn(
-        text,
-        path::draw(&words[4..], segments, level, upper, lower, list),
-    );
-    put_numbers(text, at, list);
-    true
-}
-
-fn answer_draw_standard(words: &[i32], list: &mut [i32], text: &mut [u8]) -> bool {
-    if words.len() < 2 {
-        return false;
-    }
-    let segments = unsigned_at(words, 0);
-    let level = unsigned_at(words, 1);
-    fill_numbers(list);
-    let at = put_drawn(
-        text,
-        path::draw_standard(&words[2..], segments, level, list),
-    );
-    put_numbers(text, at, list);
-    true
-}
-
-fn answer_read(words: &[i32], sheet: &mut [u8], list: &mut [i32], text: &mut [u8]) -> bool {
-    take_bytes(words, sheet);
-    fill_numbers(list);
-    let at = put_written(text, sheet::read(sheet, list));
-    put_numbers(text, at, list);
-    true
-}
-
-fn answer_write(words: &[i32], sheet: &mut [u8], text: &mut [u8]) -> bool {
-    fill_bytes(sheet);
-    let at = put_written(text, sheet::write(words, sheet));
-    put_bytes(text, at, sheet);
     true
 }

@@ -1,9 +1,9 @@
 // Lines of numbers, gathered in a lent text: it is written out where it is full, and at the end of each line. `at` is how far it is filled.
 ghost use mathlib.Core.Path.{_≡_};
 ghost use Rattle.io.specs.Counts.{Counts};
+use coordinate::Registers;
 use engine::Moved;
 use engine::Next;
-use engine::Registers;
 use engine::Shown;
 use libc::STDOUT_FILENO;
 use path::Drawn;

@@ -2,8 +2,8 @@
 use mathlib.Core.Path.{sym}
 use lib.Seq.{length-take-le}
 use borrow.Author.Needs.{needs}
-use Rattle.probe.proofs.answer_in_room.Statement.{statement}
-use Rattle.probe.proofs.answer_in_room.Tie as tie
+use Rattle.probe.proofs.answers.answer_in_room.Statement.{statement}
+use Rattle.probe.proofs.answers.answer_in_room.Tie as tie
 
 returns : tie.Need-returns
 returns c = search needs

@@ -1,0 +1,208 @@
+// The answers to requests: each is false where the arguments are not so many as the code takes.
+ghost use Prim.Native.Nat.{_≤_};
+ghost use lib.ListN.{length};
+use crate::input::control_of;
+use crate::input::drawing_of;
+use crate::input::fill_bytes;
+use crate::input::fill_numbers;
+use crate::input::take_bytes;
+use crate::input::unsigned_at;
+use crate::output::end_line;
+use crate::output::put_bytes;
+use crate::output::put_drawn;
+use crate::output::put_moved;
+use crate::output::put_next;
+use crate::output::put_numbers;
+use crate::output::put_shown;
+use crate::output::put_written;
+use engine::Drawing;
+use engine::Moved;
+use rules::COORDINATES;
+use rules::DEGREE;
+
+// The numbers of a segment's control points, and of a drawing.
+const CONTROLS: usize = COORDINATES * (DEGREE + 1);
+
+const DRAWING: usize = 2 + 4 * COORDINATES;
+
+// The most places that a request asks for.
+const MOST_ROOM: usize = 16384;
+
+pub(crate) fn answer(
+    code: u32,
+    words: &[i32],
+    bytes: &mut [u8],
+    list: &mut [i32],
+    text: &mut [u8],
+) -> bool
+    requires { ⌜ (length (now words) ≤ 16400) × (65600 ≤ length (now bytes)) × (16384 ≤ length (now list)) ⌝ }
+{
+    match code {
+        1 => answer_start(words, text),
+        2 | 3 | 4 => answer_operation(code, words, text),
+        5 => answer_next(words, text),
+        6 => answer_shown(words, text),
+        7 | 9 | 10 | 11 => answer_in_room(code, words, bytes, list, text),
+        8 => answer_measure(words, text),
+        12 => answer_measure_standard(words, text),
+        13 => answer_next_standard(words, text),
+        _ => false,
+    }
+}
+
+fn answer_start(words: &[i32], text: &mut [u8]) -> bool {
+    if words.len() != CONTROLS + 1 {
+        return false;
+    }
+    let x = control_of(words, 0);
+    let y = control_of(words, 1);
+    let level = unsigned_at(words, CONTROLS);
+    put_moved(text, Drawing::start(x, y, level));
+    true
+}
+
+fn answer_operation(code: u32, words: &[i32], text: &mut [u8]) -> bool {
+    if words.len() != DRAWING {
+        return false;
+    }
+    put_moved(text, operate(code, drawing_of(words)));
+    true
+}
+
+fn operate(code: u32, d: Drawing) -> Moved {
+    if code == 2 {
+        return d.halve();
+    }
+    if code == 3 {
+        return d.double();
+    }
+    d.step()
+}
+
+fn answer_next(words: &[i32], text: &mut [u8]) -> bool {
+    if words.len() != DRAWING + 2 {
+        return false;
+    }
+    let upper = unsigned_at(words, DRAWING);
+    let lower = unsigned_at(words, DRAWING + 1);
+    put_next(text, drawing_of(words).next(upper, lower));
+    true
+}
+
+fn answer_next_standard(words: &[i32], text: &mut [u8]) -> bool {
+    if words.len() != DRAWING {
+        return false;
+    }
+    put_next(text, drawing_of(words).next_standard());
+    true
+}
+
+fn answer_shown(words: &[i32], text: &mut [u8]) -> bool {
+    if words.len() != DRAWING {
+        return false;
+    }
+    put_shown(text, drawing_of(words).shown());
+    true
+}
+
+fn answer_measure(words: &[i32], text: &mut [u8]) -> bool {
+    if words.len() < 4 {
+        return false;
+    }
+    let segments = unsigned_at(words, 0);
+    let level = unsigned_at(words, 1);
+    let upper = unsigned_at(words, 2);
+    let lower = unsigned_at(words, 3);
+    let at = put_drawn(
+        text,
+        drawer::measure(&words[4..], segments, level, upper, lower),
+    );
+    end_line(text, at);
+    true
+}
+
+fn answer_measure_standard(words: &[i32], text: &mut [u8]) -> bool {
+    if words.len() < 2 {
+        return false;
+    }
+    let segments = unsigned_at(words, 0);
+    let level = unsigned_at(words, 1);
+    let at = put_drawn(text, drawer::measure_standard(&words[2..], segments, level));
+    end_line(text, at);
+    true
+}
+
+// ---- the answers of the codes whose first argument is the room: only so many places are lent
+
+fn answer_in_room(
+    code: u32,
+    words: &[i32],
+    bytes: &mut [u8],
+    list: &mut [i32],
+    text: &mut [u8],
+) -> bool
+    requires { ⌜ (length (now words) ≤ 16400) × (65600 ≤ length (now bytes)) × (16384 ≤ length (now list)) ⌝ }
+{
+    if words.len() == 0 {
+        return false;
+    }
+    let room = unsigned_at(words, 0) as usize;
+    if MOST_ROOM < room {
+        return false;
+    }
+    let rest = &words[1..];
+    let size = rest.len();
+    match code {
+        7 => answer_draw(rest, &mut list[..room], text),
+        9 => answer_read(rest, &mut bytes[..size], &mut list[..room], text),
+        10 => answer_write(rest, &mut bytes[..room], text),
+        _ => answer_draw_standard(rest, &mut list[..room], text),
+    }
+}
+
+fn answer_draw(words: &[i32], list: &mut [i32], text: &mut [u8]) -> bool {
+    if words.len() < 4 {
+        return false;
+    }
+    let segments = unsigned_at(words, 0);
+    let level = unsigned_at(words, 1);
+    let upper = unsigned_at(words, 2);
+    let lower = unsigned_at(words, 3);
+    fill_numbers(list);
+    let at = put_drawn(
+        text,
+        drawer::draw(&words[4..], segments, level, upper, lower, list),
+    );
+    put_numbers(text, at, list);
+    true
+}
+
+fn answer_draw_standard(words: &[i32], list: &mut [i32], text: &mut [u8]) -> bool {
+    if words.len() < 2 {
+        return false;
+    }
+    let segments = unsigned_at(words, 0);
+    let level = unsigned_at(words, 1);
+    fill_numbers(list);
+    let at = put_drawn(
+        text,
+        drawer::draw_standard(&words[2..], segments, level, list),
+    );
+    put_numbers(text, at, list);
+    true
+}
+
+fn answer_read(words: &[i32], sheet: &mut [u8], list: &mut [i32], text: &mut [u8]) -> bool {
+    take_bytes(words, sheet);
+    fill_numbers(list);
+    let at = put_written(text, reading::read(sheet, list));
+    put_numbers(text, at, list);
+    true
+}
+
+fn answer_write(words: &[i32], sheet: &mut [u8], text: &mut [u8]) -> bool {
+    fill_bytes(sheet);
+    let at = put_written(text, writing::write(words, sheet));
+    put_bytes(text, at, sheet);
+    true
+}
