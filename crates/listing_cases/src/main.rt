@@ -1,12 +1,14 @@
 // Lists several sheets, one after another, as the program `listing` lists one. Standard input has for each its size, in four bytes with the
 // lowest first, and then its bytes. tests/stored.py makes the sheets and their text.
 ghost use mathlib.Core.Path.{_≡_};
-ghost use Prim.Native.Nat.{_≤_};
+ghost use Prim.Native.Nat.{_+_, _≤_};
 ghost use lib.ListN.{length};
+ghost use Rattle.sheet.specs.Sheet.{mostBytes};
 use libc::STDIN_FILENO;
+use sheet::MOST_BYTES;
 
 // As many bytes as `listing` asks for.
-const MOST: usize = 32769;
+const MOST: usize = MOST_BYTES + 1;
 
 // A proved loop has to end, and nothing says that the input does: no run has so many sheets.
 fn main() {
@@ -40,8 +42,8 @@ fn list_sheet(sheet: &mut [u8], size: usize) -> bool
     true
 }
 
-fn sheet_buffer() -> [u8; 32769]
-    ensures { λ r. ⌜ 32769 ≡ length r ⌝ }
+fn sheet_buffer() -> [u8; MOST]
+    ensures { λ r. ⌜ mostBytes + 1 ≡ length r ⌝ }
 {
-    [0; 32769]
+    [0; MOST]
 }
