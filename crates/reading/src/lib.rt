@@ -4,7 +4,7 @@ ghost use Prim.Native.Nat.{_+_, _*_, _≤_, _<_};
 ghost use lib.ListN.{length};
 ghost use lib.Seq.{sets};
 ghost use Rattle.sheet.specs.Bytes.{valueSize, u16At, u32At, i16At, valuesAt};
-ghost use Rattle.sheet.specs.Sheet.{mostBytes, mostPaths, offsetSize, headSize, sheetNumbers};
+ghost use Rattle.sheet.specs.Sheet.{mostBytes, mostPaths, headSize, sheetNumbers};
 ghost use Rattle.sheet.specs.Records.{sheetAt};
 ghost use Rattle.sheet.specs.Reading.{bodyRefusal, recordRefusal, recordsRefusal, sheetRefusal};
 ghost use Rattle.sheet.specs.Answer.{refusedBy, readAnswer, numbersRead};
@@ -93,7 +93,7 @@ fn records_refusal(sheet: &[u8], paths: u32) -> u32
 }
 
 fn record_refusal(sheet: &[u8], k: u32, at: usize) -> u32
-    requires { ⌜ (k < mostPaths) × (headSize k + offsetSize ≤ length (now sheet)) × (at ≤ length (now sheet)) × (length (now sheet) ≤ mostBytes) ⌝ }
+    requires { ⌜ (k < mostPaths) × (headSize (k + 1) ≤ length (now sheet)) × (at ≤ length (now sheet)) × (length (now sheet) ≤ mostBytes) ⌝ }
     ensures { λ r. ⌜ r ≡ recordRefusal (now (sheet .entry)) k at ⌝ }
 {
     let offset = u32_at(sheet, head_size(k));
@@ -139,8 +139,9 @@ fn fill_numbers(sheet: &[u8], numbers: &mut [i32])
     requires { ⌜ length (sheetNumbers (sheetAt (now sheet))) ≤ length (now numbers) ⌝ }
     ensures { λ _. ⌜ now (numbers .exit) ≡ sets (now (numbers .entry)) 0 (sheetNumbers (sheetAt (now (sheet .entry)))) ⌝ }
 {
-    let start = head_size(u32_at(sheet, 0));
-    numbers[0] = u32_at(sheet, 0) as i32;
+    let paths = u32_at(sheet, 0);
+    let start = head_size(paths);
+    numbers[0] = paths as i32;
     numbers[1] = u32_at(sheet, 4) as i32;
     numbers[2] = u32_at(sheet, 8) as i32;
     take_values(

@@ -90,12 +90,10 @@ paths-numbers l (suc n) i h e =
 pub paths-short : (l : List ℤ) (n i : ℕ) → i ≤ length l → pathsRefusal l n i ≡ 0 → All Short (drop i l)
 paths-short l n i h e = let p = paths-numbers l n i h e in rw (p .1) (right-short (pathsAt l n i) (p .0))
 
--- ---- the bytes of the sheet
-
-module _ (l : List ℤ) (parted : Parted l) where
-  pub sheet-paths : All RightPath (sheetOf l .paths) × (drop listHead l ≡ pathNumbers (sheetOf l .paths))
-  unfolding sheetOf
-  sheet-paths = paths-numbers l (numberAt l 0) listHead (parted .0) (parted .2)
+-- those of the sheet that the list makes
+pub sheet-paths : (l : List ℤ) → Parted l → All RightPath (sheetOf l .paths) × (drop listHead l ≡ pathNumbers (sheetOf l .paths))
+unfolding sheetOf
+sheet-paths l parted = paths-numbers l (numberAt l 0) listHead (parted .0) (parted .2)
 
 -- ---- the rules of a whole list
 

@@ -1,5 +1,5 @@
 // Runs the requests of standard input through the sheet's two entries and prints a line for each: the refusal, the count, and the whole
-// lent buffer afterwards, its values where they are at most 64 and else their check sum. tests/sheet_vectors.py says what a request is, and
+// lent buffer afterwards, its values where they are at most 64 and else their check sum. tests/sheet_cases.py says what a request is, and
 // makes the requests and the lines.
 ghost use mathlib.Core.Path.{_≡_};
 ghost use Prim.Native.Nat.{_+_, _≤_, _<_};

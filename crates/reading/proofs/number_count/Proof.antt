@@ -4,8 +4,8 @@ use Prim.Native.Nat.{ℕ, _+_, _-_, _/_}
 use native.Mathlib.Omega.{arith}
 use borrow.Author.Needs.{needs}
 use lib.ListN.{length}
-use Rattle.sheet.specs.Bytes.{u32At}
-use Rattle.sheet.specs.Sheet.{headSize}
+use Rattle.sheet.specs.Bytes.{valueSize, u32At}
+use Rattle.sheet.specs.Sheet.{listHead, headSize}
 use Rattle.sheet.proofs.Reading.{headed}
 use Rattle.reading.proofs.Flat.{numbers-count}
 use Rattle.reading.proofs.number_count.Statement.{statement}
@@ -30,7 +30,7 @@ add-result c = search needs
 returns : tie.Need-returns
 returns c =
     let b = c .before .before .before in
-    ap (λ (n : ℕ). 3 + (length (b .args .sheet .now) - n) / 2) (start c) ∙ sym (numbers-count _ (b .pre))
+    ap (λ (n : ℕ). listHead + (length (b .args .sheet .now) - n) / valueSize) (start c) ∙ sym (numbers-count _ (b .pre))
 
 pub number-count-spec : {M : Type 1} → statement M
 number-count-spec = tie.close (tie.spec u32-at-requires head-size-requires sub-result add-result returns)

@@ -5,7 +5,8 @@ use Prim.Native.Nat.{ℕ, _+_, _-_, _*_, _≤_, _<_}
 use native.Mathlib.Omega.{arith}
 use borrow.Author.Needs.{needs}
 use lib.ListN.{length}
-use Rattle.sheet.specs.Sheet.{headSize}
+use Rattle.sheet.specs.Bytes.{valueSize}
+use Rattle.sheet.specs.Sheet.{headSize, recordHead}
 use Rattle.sheet.specs.Records.{recordEnd}
 use Rattle.sheet.specs.Reading.{recordRefusal, recordsRefusal}
 use Rattle.sheet.proofs.Reading.{records-more, records-stop, records-end, records-left, record-fits}
@@ -60,7 +61,7 @@ point-numbers-requires c κs = search needs
 
 next : (c : tie.After-point-numbers Inv-loop μ-loop)
     → let l = c .before .before .before .before .before in
-    l .loop .at + (4 + 2 * c .point-numbers .result) ≡ recordEnd (l .before .before .before .args .sheet .now) (l .loop .at)
+    l .loop .at + (recordHead + valueSize * c .point-numbers .result) ≡ recordEnd (l .before .before .before .args .sheet .now) (l .loop .at)
 next c = omega (arith, c .point-numbers .ensures, c .before .u16-at .ensures .0)
 
 mul-at : tie.Need-mul-at Inv-loop μ-loop

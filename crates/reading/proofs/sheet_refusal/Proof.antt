@@ -8,7 +8,7 @@ use lib.Dec.{leb}
 use lib.ListN.{length}
 use Rattle.rules.specs.Rules.{areLimits}
 use Rattle.sheet.specs.Bytes.{u32At}
-use Rattle.sheet.specs.Sheet.{headSize, mostPaths, mostBytes}
+use Rattle.sheet.specs.Sheet.{leastBytes, mostBytes, mostPaths, headSize}
 use Rattle.sheet.specs.Reading.{recordsRefusal, sheetRefusal}
 use Rattle.reading.proofs.sheet_refusal.Statement.{statement}
 use Rattle.reading.proofs.sheet_refusal.Tie as tie
@@ -17,7 +17,7 @@ returns : tie.Need-returns
 unfolding sheetRefusal
 returns c = rw (lt-leb _ _ (c .if1 .taken))
 
-least : (c : tie.Else1) → leb 12 (length (c .before .before .args .sheet .now)) ≡ true
+least : (c : tie.Else1) → leb leastBytes (length (c .before .before .args .sheet .now)) ≡ true
 least c = le-leb _ _ (c .if1 .left)
 
 returns-2 : tie.Need-returns-2

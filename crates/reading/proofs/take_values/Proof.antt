@@ -14,7 +14,7 @@ use Rattle.reading.proofs.take_values.Tie as tie
 
 abbrev Inv-loop : tie.InvT-loop
 Inv-loop sheet p n list₀ at from₀ to₀ left₀ list from to left =
-    (from + 2 * left ≤ length sheet)
+    (from + valueSize * left ≤ length sheet)
     × (to + left ≤ length list)
     × (length list ≡ length list₀)
     × Ahead list to (valuesAt sheet from left) list₀ to₀ (valuesAt sheet from₀ left₀)
@@ -54,7 +54,7 @@ values-more b p (suc n) h = let e : suc n - 1 ≡ n = omega arith in rw e
 
 -- the value stored is the next to come
 turn : {list₀ list : List ℤ} {to₀ to : ℕ} {all : List ℤ} (sheet : List ℕ) (from left : ℕ) (v : ℤ) → 0 < left → v ≡ i16At sheet from
-    → Ahead list to (valuesAt sheet from left) list₀ to₀ all → Ahead (set list to v) (to + 1) (valuesAt sheet (from + 2) (left - 1)) list₀ to₀ all
+    → Ahead list to (valuesAt sheet from left) list₀ to₀ all → Ahead (set list to v) (to + 1) (valuesAt sheet (from + valueSize) (left - 1)) list₀ to₀ all
 turn sheet from left v h e a = rw e (stored-one (rw (values-more sheet from left h) at a))
 
 loop-again : tie.Need-loop-again Inv-loop μ-loop
