@@ -1,3 +1,4 @@
 -- Laws of the drawer's loops and answers.
 pub mod Answers
-pub mod Drawer
+pub mod Due
+pub mod Loops

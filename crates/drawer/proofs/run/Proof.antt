@@ -1,4 +1,4 @@
--- Both loops keep what is still due (proofs/Drawer). The drawing stays one of its segment, so that each chosen operation is accepted and
+-- Both loops keep what is still due (proofs/Loops). The drawing stays one of its segment, so that each chosen operation is accepted and
 -- brings the end nearer, and choosing refuses at the end alone.
 use mathlib.Core.Path.{refl, sym, ap, _∙_}
 use Prim.Native.Nat.{_+_, _-_, _<_}
@@ -15,7 +15,8 @@ use Rattle.path.proofs.Accepted.{accepted-lawful}
 use Rattle.path.proofs.Segments.{Sound, sound}
 use Rattle.distance.proofs.Demand3.{fine}
 use Rattle.engine.specs.Coordinates.{in-x}
-use Rattle.drawer.proofs.Drawer.{segment-ready, Took, took, refused-ends, few-small, Inner, Outer, onward, turn-kept, inner-falls, inner-quiet, inner-step, outer-starts, inner-starts, outer-goes, all-shown}
+use Rattle.drawer.proofs.Due.{few-small}
+use Rattle.drawer.proofs.Loops.{segment-ready, Took, took, refused-ends, Inner, Outer, onward, turn-kept, inner-falls, inner-quiet, inner-step, outer-starts, inner-starts, outer-goes, all-shown}
 use Rattle.drawer.proofs.run.Statement.{statement}
 use Rattle.drawer.proofs.run.Tie as tie
 

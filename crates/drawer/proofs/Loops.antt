@@ -1,5 +1,4 @@
--- The drawer's loops, over plain values: one turn of the inner loop, and what a loop keeps. The list and the tally, with all that is still
--- due, are those of the loop's start with all that was due there.
+-- The drawer's loops, over plain values: the start of a segment, one turn of the inner loop, and what each loop keeps.
 use mathlib.Core.Path.{_≡_, refl, sym, ap, _∙_, subst}
 use mathlib.Core.List.{List, [], _∷_, _++_}
 use mathlib.Core.Option.{Option, none, some, Option·some-ne-none}
@@ -12,7 +11,7 @@ use lib.Pow.{pow-pos}
 use lib.Seq.{sets}
 use borrow.Author.Needs.{zero≤}
 use borrow.Author.Tests.{ltb-true, ltb-false}
-use Rattle.numbers.proofs.Buffers.{Ahead, here, then, stored, stored-all}
+use Rattle.numbers.proofs.Buffers.{stored-all}
 use Rattle.rules.specs.Refusals.{refusalOr}
 use Rattle.engine.specs.declared.Drawing.{Drawing}
 use Rattle.engine.specs.declared.Moved.{Moved}
@@ -24,16 +23,16 @@ use Rattle.engine.proofs.Answers.{choice-opens}
 use Rattle.distance.proofs.Choice.{choice-answers, chosen-accepted}
 use Rattle.entries.specs.declared.Entry.{Entry}
 use Rattle.entries.specs.Entries.{entrySize, numbers, flat}
-use Rattle.entries.proofs.Length.{move-most}
 use Rattle.drawer.specs.declared.Tally.{Tally}
 use Rattle.rules.specs.Rules.{finest, degree}
 use Rattle.path.specs.Path.{Path, pathRefusal, first}
 use Rattle.path.specs.Segment.{next, turns}
 use Rattle.path.specs.Entries.{entry, shown, shownBy, rest, following, entries}
-use Rattle.drawer.specs.Tally.{Ready, begun, added, Small, addedAll, tally}
+use Rattle.drawer.specs.Tally.{Ready, begun, added, addedAll, tally}
 use Rattle.path.proofs.Accepted.{accepted-lawful, point-inside, segment-accepted}
 use Rattle.path.proofs.Segments.{Of, Sound, fits, of-inside, of-next}
 use Rattle.path.proofs.Turns.{by-test, next-falls, turns-end, turns-more}
+use Rattle.drawer.proofs.Due.{Due, due-here, due-then, due-by, due-shown, Few, few-most, few-more}
 
 -- ---- the start of each segment
 
@@ -81,50 +80,6 @@ refused-ends F p k sound d kept number e =
     let f = ap (λ (s : Said). s .operation) (sym (choice-answers F _ d kept (p .upper) (p .lower) (sound .limits) (ltb-true (d .q) (2 ^ F) t)) ∙ e) in
     absurd (Option·some-ne-none _ f))
     (λ t. ltb-false (d .q) (2 ^ F) t)
-
--- ---- what is due
-
-pub record Due (l : List ℤ) (t : Tally) (es : List Entry) (l₀ : List ℤ) (t₀ : Tally) (es₀ : List Entry) : Type 0 where
-  pub tally : addedAll t es ≡ addedAll t₀ es₀
-  pub list : Ahead l (entrySize * t .points) (flat es) l₀ (entrySize * t₀ .points) (flat es₀)
-
-pub due-here : (l : List ℤ) (t : Tally) (es : List Entry) → Due l t es l t es
-due-here l t es = record { tally = refl; list = here l (entrySize * t .points) (flat es) }
-
-pub due-then : {l l₁ l₀ : List ℤ} {t t₁ t₀ : Tally} {es es₁ es₀ : List Entry}
-    → Due l t es l₁ t₁ es₁ → Due l₁ t₁ es₁ l₀ t₀ es₀ → Due l t es l₀ t₀ es₀
-due-then a b = record { tally = a .tally ∙ b .tally; list = then (a .list) (b .list) }
-
--- the same entries in another form
-pub due-by : {l l₀ : List ℤ} {t t₀ : Tally} {es fs es₀ : List Entry} → fs ≡ es → Due l t es l₀ t₀ es₀ → Due l t fs l₀ t₀ es₀
-due-by {l} {l₀} {t} {t₀} {es₀ = es₀} e a = subst (λ (x : List Entry). Due l t x l₀ t₀ es₀) (sym e) a
-
--- an entry is shown
-pub due-shown : {l l₀ : List ℤ} {t t₀ : Tally} {e : Entry} {es es₀ : List Entry} → Due l t (e ∷ es) l₀ t₀ es₀
-    → Due (sets l (entrySize * t .points) (numbers e)) (added t e) es l₀ t₀ es₀
-unfolding addedAll added flat
-due-shown {l} {t = t} {e = e} {es = es} a =
-    let at = entrySize * t .points in
-    let one = subst (λ (n : ℕ). Ahead (sets l at (numbers e)) n (flat es) l at (flat (e ∷ es))) (one-more (t .points)) (stored l at (numbers e) (flat es)) in
-    record { tally = a .tally; list = then one (a .list) }
-  where
-    one-more : (n : ℕ) → entrySize * n + entrySize ≡ entrySize * (n + 1)
-    one-more n = omega arith
-
--- a tally of at most n points
-pub record Few (t : Tally) (n : ℕ) : Type 0 where
-  pub points : t .points ≤ n
-  pub length : t .length ≤ 1414 * t .points
-
-pub few-small : {t : Tally} {n : ℕ} → Few t n → n ≤ 1000000 → Small t
-few-small f h = record { few = le-trans (f .points) h; short = f .length }
-
-few-most : {t : Tally} {m n : ℕ} → Few t m → m ≤ n → Few t n
-few-most f h = record { points = le-trans (f .points) h; length = f .length }
-
-pub few-more : (t : Tally) (e : Entry) {m n : ℕ} → Few t m → m < n → Few (added t e) n
-unfolding added
-few-more t e f h = record { points = omega (arith, f .points); length = omega (arith, f .length, move-most (t .last) e) }
 
 -- ---- one turn: op was chosen at d, and the call answered m
 
