@@ -8,7 +8,7 @@ use Rattle.numbers.proofs.Floor.{floor-multiple}
 use Rattle.coordinate.specs.declared.Registers.{Registers}
 use Rattle.coordinate.specs.Registers.{halve, double, turn, _>>_}
 
-two-above : (n : ℕ) → suc n + 1 ≡ n + 2
+pub two-above : (n : ℕ) → suc n + 1 ≡ n + 2
 two-above n = omega arith
 
 -- of any registers

@@ -4,6 +4,7 @@ pub mod Start
 pub mod Bernstein
 pub mod Exact
 pub mod Back
+pub mod Increment
 pub mod Refined
 pub mod Turns
 pub mod Pixel

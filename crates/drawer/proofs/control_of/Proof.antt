@@ -5,57 +5,56 @@ use native.Mathlib.Omega.{arith}
 use Rattle.numbers.proofs.Machine.{number-read}
 use Rattle.rules.specs.Rules.{degree, coordinates}
 use Rattle.path.specs.Path.{pointAt, control}
-use borrow.Author.Needs.{needs}
 use Rattle.drawer.proofs.control_of.Statement.{statement}
 use Rattle.drawer.proofs.control_of.Tie as tie
 
 mul-i : tie.Need-mul-i
-mul-i c = search needs
+mul-i c = record { fits = omega arith }
 
 mul-i-2 : tie.Need-mul-i-2
-mul-i-2 c = search needs
+mul-i-2 c = record { fits = omega arith }
 
 add-i : tie.Need-add-i
-add-i c = search needs
+add-i c = record { fits = omega arith }
 
 mul-t5 : tie.Need-mul-t5
-mul-t5 c = search needs
+mul-t5 c = record { fits = omega arith }
 
 shared-slice-copy-out-t9 : tie.Need-shared-slice-copy-out-t9
-shared-slice-copy-out-t9 c = search needs
+shared-slice-copy-out-t9 c = omega arith
 
 add-t7 : tie.Need-add-t7
-add-t7 c = search needs
+add-t7 c = record { fits = omega arith }
 
 mul-t6 : tie.Need-mul-t6
-mul-t6 c = search needs
+mul-t6 c = record { fits = omega arith }
 
 shared-slice-copy-out-t11 : tie.Need-shared-slice-copy-out-t11
-shared-slice-copy-out-t11 c = search needs
+shared-slice-copy-out-t11 c = omega arith
 
 mul-t12 : tie.Need-mul-t12
-mul-t12 c = search needs
+mul-t12 c = record { fits = omega arith }
 
 add-t13 : tie.Need-add-t13
-add-t13 c = search needs
+add-t13 c = record { fits = omega arith }
 
 mul-t14 : tie.Need-mul-t14
-mul-t14 c = search needs
+mul-t14 c = record { fits = omega arith }
 
 shared-slice-copy-out-t16 : tie.Need-shared-slice-copy-out-t16
-shared-slice-copy-out-t16 c = search needs
+shared-slice-copy-out-t16 c = omega arith
 
 mul-t17 : tie.Need-mul-t17
-mul-t17 c = search needs
+mul-t17 c = record { fits = omega arith }
 
 add-t18 : tie.Need-add-t18
-add-t18 c = search needs
+add-t18 c = record { fits = omega arith }
 
 mul-t19 : tie.Need-mul-t19
-mul-t19 c = search needs
+mul-t19 c = record { fits = omega arith }
 
 shared-slice-copy-out-t21 : tie.Need-shared-slice-copy-out-t21
-shared-slice-copy-out-t21 c = search needs
+shared-slice-copy-out-t21 c = omega arith
 
 returns : tie.Need-returns
 unfolding control pointAt

@@ -2,7 +2,7 @@
 use Prim.Native.Nat.{ℕ, _+_}
 use lib.IntN.{pos, _+ℤ_, _*ℤ_}
 use mir.Syntax.{w64}
-use borrow.Author.Needs.{needs}
+use native.Mathlib.Omega.{arith}
 use Rattle.numbers.proofs.Machine.{Num, literal, local, shift, plus, times, fits}
 use Rattle.coordinate.specs.declared.Registers.{Registers}
 use Rattle.coordinate.specs.Registers.{turn, _>>_}
@@ -32,7 +32,7 @@ abbrev new-c : (c : tie.After-struct-told4) → Num 4294967296 (r c .c +ℤ (r c
 new-c c = plus (old c .c) (local w64 tt (shift (n c + 1) (old c .b)))
 
 widen-requires : tie.Need-widen-requires
-widen-requires c κs = search needs
+widen-requires c κs = tt
 
 mul-new-a : tie.Need-mul-new-a
 mul-new-a c = fits tt (new-a c)
@@ -41,13 +41,13 @@ add-new-b : tie.Need-add-new-b
 add-new-b c = fits tt (new-b c)
 
 add-new-c : tie.Need-add-new-c
-add-new-c c = search needs
+add-new-c c = record { fits = omega arith }
 
 cast-new-c : tie.Need-cast-new-c
-cast-new-c c = search needs
+cast-new-c c = record { sfits = omega arith }
 
 shr-new-c : tie.Need-shr-new-c
-shr-new-c c = search needs
+shr-new-c c = omega arith
 
 add-new-c-2 : tie.Need-add-new-c-2
 add-new-c-2 c = fits tt (new-c c)

@@ -2,7 +2,7 @@
 use Prim.Native.Nat.{ℕ, _+_}
 use lib.IntN.{_-ℤ_}
 use mir.Syntax.{w64}
-use borrow.Author.Needs.{needs}
+use native.Mathlib.Omega.{arith}
 use Rattle.numbers.proofs.Machine.{Num, local, shift, minus, fits}
 use Rattle.coordinate.specs.declared.Registers.{Registers}
 use Rattle.coordinate.specs.Registers.{turn, _>>_}
@@ -32,19 +32,19 @@ abbrev new-c : (c : tie.After-struct-told4) → Num 6442450944 (r c .c -ℤ ((r 
 new-c c = minus (old c .c) (local w64 tt (shift (n c + 2) (local w64 tt (new-b c))))
 
 widen-requires : tie.Need-widen-requires
-widen-requires c κs = search needs
+widen-requires c κs = tt
 
 sub-new-b : tie.Need-sub-new-b
 sub-new-b c = fits tt (new-b c)
 
 add-new-c : tie.Need-add-new-c
-add-new-c c = search needs
+add-new-c c = record { fits = omega arith }
 
 cast-new-c : tie.Need-cast-new-c
-cast-new-c c = search needs
+cast-new-c c = record { sfits = omega arith }
 
 shr-new-c : tie.Need-shr-new-c
-shr-new-c c = search needs
+shr-new-c c = omega arith
 
 sub-new-c : tie.Need-sub-new-c
 sub-new-c c = fits tt (new-c c)

@@ -2,7 +2,7 @@
 use Prim.Native.Nat.{ℕ}
 use lib.IntN.{_+ℤ_}
 use mir.Syntax.{w64}
-use borrow.Author.Needs.{needs}
+use native.Mathlib.Omega.{arith}
 use Rattle.numbers.proofs.Machine.{Num, local, shift, plus, fits}
 use Rattle.coordinate.specs.declared.Registers.{Registers}
 use Rattle.coordinate.specs.Registers.{turn, _>>_}
@@ -32,25 +32,25 @@ abbrev new-d : (c : tie.After-struct-told4) → Num 4294967296 (r c .d +ℤ (r c
 new-d c = plus (old c .d) (local w64 tt (shift (n c) (old c .c)))
 
 widen-requires : tie.Need-widen-requires
-widen-requires c κs = search needs
+widen-requires c κs = tt
 
 add-new-b : tie.Need-add-new-b
 add-new-b c = fits tt (new-b c)
 
 cast-new-c : tie.Need-cast-new-c
-cast-new-c c = search needs
+cast-new-c c = record { sfits = omega arith }
 
 shr-new-c : tie.Need-shr-new-c
-shr-new-c c = search needs
+shr-new-c c = omega arith
 
 add-new-c : tie.Need-add-new-c
 add-new-c c = fits tt (new-c c)
 
 cast-new-d : tie.Need-cast-new-d
-cast-new-d c = search needs
+cast-new-d c = record { sfits = omega arith }
 
 shr-new-d : tie.Need-shr-new-d
-shr-new-d c = search needs
+shr-new-d c = omega arith
 
 add-new-d : tie.Need-add-new-d
 add-new-d c = fits tt (new-d c)

@@ -1,25 +1,28 @@
 -- A cast to 64 bits keeps each number.
 use mir.Facts.{toZ-ofZ}
-use Rattle.numbers.proofs.Machine.{signed, reads-back, widens}
-use Rattle.engine.proofs.Fitting.{told}
+use Rattle.numbers.proofs.Machine.{field, fits, reads-back, widens}
+use Rattle.engine.proofs.Fitting.{Fits32, told}
 use Rattle.engine.proofs.widen.Statement.{statement}
 use Rattle.engine.proofs.widen.Tie as tie
 
+registers : (c : tie.Start) → Fits32 (c .args .r)
+registers c = told (c .good .0 .1 .1)
+
 cast-t2 : tie.Need-cast-t2
-cast-t2 c = search signed
+cast-t2 c = fits tt (field (registers (c .before .before) .a))
 
 cast-t3 : tie.Need-cast-t3
-cast-t3 c = search signed
+cast-t3 c = fits tt (field (registers (c .before .before .before .before) .b))
 
 cast-t4 : tie.Need-cast-t4
-cast-t4 c = search signed
+cast-t4 c = fits tt (field (registers (c .before .before .before .before .before .before) .c))
 
 cast-t5 : tie.Need-cast-t5
-cast-t5 c = search signed
+cast-t5 c = fits tt (field (registers (c .before .before .before .before .before .before .before .before) .d))
 
 returns : tie.Need-returns
 returns c =
-    let f = told (c .struct-told4 .given) in
+    let f = registers (c .before .before .before .before .before .before .before .before) in
     λ i. record {
       a = reads-back (toZ-ofZ (f .a)) (widens (f .a)) i;
       b = reads-back (toZ-ofZ (f .b)) (widens (f .b)) i;
