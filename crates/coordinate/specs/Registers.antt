@@ -21,7 +21,7 @@ abbrev pub unit : ℤ
 unit = pos 65536
 
 -- With δ = 1 / 2^n: a = 65,536·6A·δ; b = 65,536·(6A·δ + 2B); c = floor of 65,536·(C + B·δ + A·δ²); d = 65,536·D.
--- c is one floor over the whole sum, which is scaled by 2^(2n) first; a and b are whole (`start-is-whole` in proofs/Begin).
+-- c is one floor over the whole sum, which is scaled by 2^(2n) first; a and b are whole (`start-is-whole` in proofs/Start).
 unfoldable pub startRegisters : ℕ → Curve → Registers
 startRegisters n f =
     record {

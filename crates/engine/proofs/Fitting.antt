@@ -14,7 +14,7 @@ use Rattle.numbers.proofs.Machine.{Num, fits-size, reads-back, widens}
 use Rattle.numbers.proofs.Size.{Size, size-sum, size-shift}
 use Rattle.numbers.proofs.Tests.{and-true, and-four}
 use Rattle.coordinate.specs.declared.Registers.{Registers}
-use Rattle.engine.specs.declared.Wide.{Wide}
+use Rattle.engine.specs.declared.turning.Wide.{Wide}
 use Rattle.coordinate.specs.Registers.{double, turn, isRegister, areRegisters}
 use Rattle.engine.specs.Wide.{narrowed}
 
