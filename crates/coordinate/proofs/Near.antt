@@ -68,7 +68,7 @@ close F f n j q r h o =
     one-less : (G : ℕ) → 2 * G ≤ 1 + (2 * G - 1)
     one-less G = omega arith
 
--- less than any m from 2·2^F on: 3·2^F, and at F = 11 the 6,144 of demand 3 and the 4,096 of order 13
+-- less than any m from 2·2^F on: 3·2^F, and at F = 11 the 6,144 of demand 3
 pub near : (F : ℕ) (f : Curve) (n j q : ℕ) (r : Registers) → F ≤ 16 → At F f n j q r → (m : ℕ) → 2 * 2 ^ F ≤ m
     → natAbs (r .d *ℤ pos (2 ^ (3 * F)) -ℤ pos 65536 *ℤ exact F f q) < m * 2 ^ (3 * F)
 near F f n j q r h o m l = below (2 ^ F) m (2 ^ (3 * F)) _ (pow-pos F) (pow-pos (3 * F)) l (close F f n j q r h o .le)

@@ -1,25 +1,25 @@
 // Point lists of paths: draw fills a lent list, measure answers the number of points and the length alone.
+mod segments;
+
 ghost use mathlib.Core.Path.{_≡_};
 ghost use Prim.Native.Nat.{_+_, _*_, _^_, _≤_, _<_};
 ghost use lib.ListN.{length};
 ghost use lib.Seq.{sets};
-ghost use Rattle.rules.specs.Rules.{finest, standardUpper, standardLower, degree, coordinates, mostSegments};
+ghost use Rattle.rules.specs.Rules.{finest, standardUpper, standardLower, mostSegments};
 ghost use Rattle.entries.specs.Entries.{entrySize, numbers, flat};
-ghost use Rattle.path.specs.Path.{path, pathRefusal, control, first};
+ghost use Rattle.path.specs.Path.{path, pathRefusal, first};
 ghost use Rattle.path.specs.Entries.{entry, entries};
 ghost use Rattle.path.specs.Answer.{refusedBy, measured, drawn, written};
 ghost use Rattle.drawer.specs.Tally.{planned, Ready, begun, added, Small, tally};
-use coordinate::Control;
 use engine::Drawing;
 use engine::Next;
 use entries::ENTRY_SIZE;
 use entries::Entry;
 use path::Drawn;
-use rules::COORDINATES;
-use rules::DEGREE;
-use rules::FINEST;
 use rules::STANDARD_LOWER;
 use rules::STANDARD_UPPER;
+use segments::entry_of;
+use segments::first_of;
 
 // How a path is drawn, beside its points.
 struct Plan {
@@ -214,42 +214,5 @@ fn add(t: Tally, e: Entry) -> Tally
         points: t.points + 1,
         length: t.length + moved,
         last: e,
-    }
-}
-
-fn entry_of(d: Drawing, k: u32) -> Entry
-    requires { ⌜ (k < mostSegments) × (d .q ≤ 2 ^ finest) ⌝ }
-    ensures { λ r. ⌜ r ≡ entry finest k d ⌝ }
-{
-    let position = (k << FINEST) + d.q;
-    let shown = d.shown();
-    Entry {
-        position: position as i32,
-        x: shown.x,
-        y: shown.y,
-    }
-}
-
-// The drawing that segment k starts from.
-fn first_of(points: &[i32], k: u32, level: u32) -> Drawing
-    requires { ⌜ Ready (now points) level k ⌝ }
-    ensures { λ r. ⌜ r ≡ first (now (points .entry)) level k ⌝ }
-{
-    let x = control_of(points, 0, k);
-    let y = control_of(points, 1, k);
-    Drawing::start(x, y, level).drawing
-}
-
-// Coordinate c of segment k's points.
-fn control_of(points: &[i32], c: usize, k: u32) -> Control
-    requires { ⌜ (c < coordinates) × (k < mostSegments) × (coordinates * (degree * k + degree) + 1 < length (now points)) ⌝ }
-    ensures { λ r. ⌜ r ≡ control (now (points .entry)) c k ⌝ }
-{
-    let i = COORDINATES * (DEGREE * (k as usize)) + c;
-    Control {
-        p0: points[i],
-        p1: points[i + COORDINATES],
-        p2: points[i + 2 * COORDINATES],
-        p3: points[i + 3 * COORDINATES],
     }
 }

@@ -3,7 +3,7 @@ use mathlib.Core.Path.{refl}
 use Prim.Native.Nat.{_+_, _*_}
 use Rattle.numbers.proofs.Machine.{number-read}
 use borrow.Author.Tests.{lt-ltb, le-ltb}
-use Rattle.entries.specs.Entries.{entryAt}
+use Rattle.entries.specs.Entries.{entrySize, entryAt}
 use borrow.Author.Needs.{needs}
 use Rattle.entries.proofs.entry_at.Statement.{statement}
 use Rattle.entries.proofs.entry_at.Tie as tie
@@ -44,7 +44,7 @@ unfolding entryAt
 returns-2 c =
     let s = c .before .before .before .before in
     let l = s .args .list .now in
-    let at = 3 * s .args .i in
+    let at = entrySize * s .args .i in
     simp (lt-ltb _ _ (c .before .before .before .if1 .left), number-read l at at refl (c .before .before .t8 .given), number-read l (at + 1) (at + 1) refl (c .before .t11 .given), number-read l (at + 2) (at + 2) refl (c .t15 .given))
 
 pub entry-at-spec : {M : Type 1} → statement M

@@ -5,8 +5,8 @@ use native.Mathlib.Omega.{arith}
 use Rattle.numbers.proofs.Machine.{number-read}
 use Rattle.rules.specs.Rules.{degree, coordinates}
 use Rattle.path.specs.Path.{pointAt, control}
-use Rattle.drawer.proofs.control_of.Statement.{statement}
-use Rattle.drawer.proofs.control_of.Tie as tie
+use Rattle.drawer.proofs.segments.control_of.Statement.{statement}
+use Rattle.drawer.proofs.segments.control_of.Tie as tie
 
 mul-i : tie.Need-mul-i
 mul-i c = record { fits = omega arith }

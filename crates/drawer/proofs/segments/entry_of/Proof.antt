@@ -12,8 +12,8 @@ use Rattle.rules.specs.Rules.{finest}
 use Rattle.engine.specs.declared.Shown.{Shown}
 use Rattle.engine.specs.Shown.{point}
 use Rattle.path.specs.Entries.{entry}
-use Rattle.drawer.proofs.entry_of.Statement.{statement}
-use Rattle.drawer.proofs.entry_of.Tie as tie
+use Rattle.drawer.proofs.segments.entry_of.Statement.{statement}
+use Rattle.drawer.proofs.segments.entry_of.Tie as tie
 
 add-position : tie.Need-add-position
 add-position c = search needs

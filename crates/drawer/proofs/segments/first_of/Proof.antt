@@ -9,8 +9,8 @@ use Rattle.engine.proofs.Every.{picked}
 use Rattle.engine.specs.Start.{started}
 use Rattle.engine.proofs.Accepted.{start-begins}
 use Rattle.path.specs.Path.{controls, first}
-use Rattle.drawer.proofs.first_of.Statement.{statement}
-use Rattle.drawer.proofs.first_of.Tie as tie
+use Rattle.drawer.proofs.segments.first_of.Statement.{statement}
+use Rattle.drawer.proofs.segments.first_of.Tie as tie
 
 control-of-requires : tie.Need-control-of-requires
 control-of-requires c κs = search needs

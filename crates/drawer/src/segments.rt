@@ -1,0 +1,52 @@
+// A segment of a path: its control points, the drawing that it starts from, and a drawing's entry.
+ghost use mathlib.Core.Path.{_≡_};
+ghost use Prim.Native.Nat.{_+_, _*_, _^_, _≤_, _<_};
+ghost use lib.ListN.{length};
+ghost use Rattle.rules.specs.Rules.{finest, degree, coordinates, mostSegments};
+ghost use Rattle.path.specs.Path.{control, first};
+ghost use Rattle.path.specs.Entries.{entry};
+ghost use Rattle.drawer.specs.Tally.{Ready};
+use coordinate::Control;
+use engine::Drawing;
+use entries::Entry;
+use rules::COORDINATES;
+use rules::DEGREE;
+use rules::FINEST;
+
+// The entry of a drawing of segment k.
+pub(crate) fn entry_of(d: Drawing, k: u32) -> Entry
+    requires { ⌜ (k < mostSegments) × (d .q ≤ 2 ^ finest) ⌝ }
+    ensures { λ r. ⌜ r ≡ entry finest k d ⌝ }
+{
+    let position = (k << FINEST) + d.q;
+    let shown = d.shown();
+    Entry {
+        position: position as i32,
+        x: shown.x,
+        y: shown.y,
+    }
+}
+
+// The drawing that segment k starts from.
+pub(crate) fn first_of(points: &[i32], k: u32, level: u32) -> Drawing
+    requires { ⌜ Ready (now points) level k ⌝ }
+    ensures { λ r. ⌜ r ≡ first (now (points .entry)) level k ⌝ }
+{
+    let x = control_of(points, 0, k);
+    let y = control_of(points, 1, k);
+    Drawing::start(x, y, level).drawing
+}
+
+// Coordinate c of segment k's points.
+fn control_of(points: &[i32], c: usize, k: u32) -> Control
+    requires { ⌜ (c < coordinates) × (k < mostSegments) × (coordinates * (degree * k + degree) + 1 < length (now points)) ⌝ }
+    ensures { λ r. ⌜ r ≡ control (now (points .entry)) c k ⌝ }
+{
+    let i = COORDINATES * (DEGREE * (k as usize)) + c;
+    Control {
+        p0: points[i],
+        p1: points[i + COORDINATES],
+        p2: points[i + 2 * COORDINATES],
+        p3: points[i + 3 * COORDINATES],
+    }
+}
