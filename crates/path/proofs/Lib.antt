@@ -8,4 +8,3 @@ pub mod Joined
 pub mod Walk
 pub mod Spans
 pub mod Listed
-pub mod Cases
