@@ -1,5 +1,6 @@
 -- Laws of one coordinate, for the crates that cite them.
 pub mod Points
+pub mod Bits
 pub mod Start
 pub mod Bernstein
 pub mod Exact

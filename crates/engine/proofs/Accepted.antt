@@ -1,5 +1,5 @@
 -- A start that is accepted.
-use mathlib.Core.Path.{_≡_}
+use mathlib.Core.Path.{_≡_, refl, ap, _∙_}
 use mathlib.Core.Bool.{true}
 use Prim.Native.Nat.{ℕ, _≤_}
 use borrow.Author.Tests.{leb-true}
@@ -7,10 +7,16 @@ use Rattle.rules.specs.Rules.{reach, isLevel}
 use Rattle.rules.proofs.Refusals.{rule-kept, answers}
 use Rattle.coordinate.specs.declared.Control.{Control}
 use Rattle.coordinate.specs.Points.{areCoordinates, areNear}
+use Rattle.coordinate.specs.Curve.{curve}
 use Rattle.coordinate.specs.Course.{cubic}
-use Rattle.engine.specs.Coordinates.{Coordinate, every}
+use Rattle.coordinate.specs.Registers.{startRegisters}
+use Rattle.coordinate.specs.Shown.{pixel}
+use Rattle.coordinate.proofs.Ends.{first-shown}
+use Rattle.engine.specs.declared.Moved.{Moved}
+use Rattle.engine.specs.Coordinates.{Coordinate, in-x, in-y, every}
 use Rattle.engine.specs.Drawing.{refused}
 use Rattle.engine.specs.Start.{startRefusal, nothingDrawn, firstDrawing, started}
+use Rattle.engine.specs.Shown.{point}
 use Rattle.engine.proofs.Every.{every-true}
 
 pub record Accepted (F : ℕ) (p : Coordinate → Control) (n : ℕ) : Type 0 where
@@ -34,3 +40,15 @@ pub start-begins : (F : ℕ) (p : Coordinate → Control) (n : ℕ) → startRef
     → started F p n ≡ record { refusal = 0; drawing = firstDrawing (λ c. cubic (p c)) n }
 unfolding started
 start-begins F p n e = answers (refused nothingDrawn) _ e
+
+-- the point shown of it is the first control point, in each coordinate
+first-pixel : (n : ℕ) (p : Control) → pixel (startRegisters n (curve p)) ≡ p .p0
+unfolding startRegisters curve
+first-pixel n p = first-shown (startRegisters n (curve p)) (p .p0) refl
+
+pub start-shows : (F : ℕ) (p : Coordinate → Control) (n : ℕ) → startRefusal F p n ≡ 0
+    → point (started F p n .drawing) ≡ record { x = p in-x .p0; y = p in-y .p0 }
+unfolding point
+start-shows F p n e =
+    ap (λ (m : Moved). point (m .drawing)) (start-begins F p n e)
+    ∙ (λ i. record { x = first-pixel n (p in-x) i; y = first-pixel n (p in-y) i })

@@ -55,23 +55,29 @@ limited F upper d e h =
     neither false true e = absurd (true≢false e)
     neither true b e = absurd (true≢false e)
 
-pub record Doubling (F upper : ℕ) (d : Drawing) : Type 0 where
+pub record Doubling (F upper lower : ℕ) (d : Drawing) : Type 0 where
   pub above : 0 < d .level
+  pub small-x : increment (d .level) (d .x) < lower
+  pub small-y : increment (d .level) (d .y) < lower
   pub aligned : isAligned F (d .level) (d .q) ≡ true
   pub x : doubledIncrement (d .level) (d .x) ≤ upper
   pub y : doubledIncrement (d .level) (d .y) ≤ upper
 
-pub double-chosen : (F upper lower : ℕ) (d : Drawing) → wantsDouble F upper lower d ≡ true → Doubling F upper d
+pub double-chosen : (F upper lower : ℕ) (d : Drawing) → wantsDouble F upper lower d ≡ true → Doubling F upper lower d
 unfolding wantsDouble
 double-chosen F upper lower d e =
     let n = d .level in
-    let small = ltb (increment n (d .x)) lower && ltb (increment n (d .y)) lower in
+    let small-x = ltb (increment n (d .x)) lower in
+    let small-y = ltb (increment n (d .y)) lower in
     let x = leb (doubledIncrement n (d .x)) upper in
     let y = leb (doubledIncrement n (d .y)) upper in
-    let t = and-four (ltb 0 n) small (isAligned F n (d .q)) (x && y) e in
+    let t = and-four (ltb 0 n) (small-x && small-y) (isAligned F n (d .q)) (x && y) e in
+    let small = and-true small-x small-y (t .1) in
     let both = and-true x y (t .3) in
     record {
       above = ltb-true 0 n (t .0);
+      small-x = ltb-true (increment n (d .x)) lower (small .0);
+      small-y = ltb-true (increment n (d .y)) lower (small .1);
       aligned = t .2;
       x = leb-true (doubledIncrement n (d .x)) upper (both .0);
       y = leb-true (doubledIncrement n (d .y)) upper (both .1);

@@ -1,4 +1,4 @@
--- Four numbers of 32 bits, as registers and control points are, and what the machine holds of them.
+-- What the machine holds of registers and control points, four numbers of 32 bits each.
 use mathlib.Core.Path.{_≡_, ap}
 use mathlib.Core.Bool.{true}
 use Prim.Native.Nat.{ℕ, _+_, _^_, _<_}
@@ -15,17 +15,9 @@ use Rattle.numbers.proofs.Size.{Size, size-sum, size-shift}
 use Rattle.numbers.proofs.Tests.{and-true, and-four}
 use Rattle.coordinate.specs.declared.Registers.{Registers}
 use Rattle.engine.specs.declared.turning.Wide.{Wide}
-use Rattle.coordinate.specs.Registers.{double, turn, isRegister, areRegisters}
+use Rattle.coordinate.specs.Registers.{double, turn}
+use Rattle.coordinate.proofs.Bits.{Fitting, Fits32}
 use Rattle.engine.specs.Wide.{narrowed}
-
-pub record Fitting (p q r s : ℤ) : Type 0 where
-  pub a : SFits w32 p
-  pub b : SFits w32 q
-  pub c : SFits w32 r
-  pub d : SFits w32 s
-
-abbrev pub Fits32 : Registers → Type 0
-Fits32 r = Fitting (r .a) (r .b) (r .c) (r .d)
 
 -- as the borrow checker tells it of a struct of four such numbers
 pub told : {p q r s : ℤ} {A B C D E : Type 0}
@@ -37,23 +29,6 @@ told t =
       b = record { sfits = t .1 .0 .1 };
       c = record { sfits = t .1 .1 .0 .1 };
       d = record { sfits = t .1 .1 .1 .0 .1 };
-    }
-
-register-fits : (z : ℤ) → isRegister z ≡ true → SFits w32 z
-register-fits (pos n) e = record { sfits = omega (arith, leb-true n 2147483647 e) }
-register-fits (negsuc n) e =
-    record { sfits = omega (arith, leb-true n 2147483647 (and-true (leb n 2147483647) true e .0)) }
-
--- as the test tells it
-pub registers-fit : (r : Registers) → areRegisters r ≡ true → Fits32 r
-unfolding areRegisters
-registers-fit r e =
-    let t = and-four (isRegister (r .a)) (isRegister (r .b)) (isRegister (r .c)) (isRegister (r .d)) e in
-    record {
-      a = register-fits (r .a) (t .0);
-      b = register-fits (r .b) (t .1);
-      c = register-fits (r .c) (t .2);
-      d = register-fits (r .d) (t .3);
     }
 
 -- the widened registers, as the machine holds them

@@ -1,16 +1,16 @@
 -- A refused sheet is listed by one line, which is not cut: reading into room for every sheet refuses by the sheet alone.
 use mathlib.Core.Path.{_≡_, sym, ap, _∙_}
 use mathlib.Core.Bool.{true, false}
-use mathlib.Core.List.{List, [], _∷_}
+use mathlib.Core.List.{List}
 use Prim.Native.Nat.{ℕ, suc, _≤_}
 use native.Mathlib.Omega.{arith}
-use lib.Dec.{T, leb, eqb, leb→le}
+use lib.Dec.{leb, eqb, leb→le}
 use lib.IntN.{pos}
 use lib.ListN.{length, replicate, length-replicate}
 use borrow.Author.Tests.{eqb-true, eqb-false}
 use Rattle.numbers.specs.Tables.{All}
 use Rattle.numbers.proofs.Tables.{tested}
-use Rattle.rules.specs.Refusals.{isAmong}
+use Rattle.rules.proofs.Refusals.{among-all}
 use Rattle.path.proofs.Turns.{by-test}
 use Rattle.sheet.specs.declared.Written.{Written}
 use Rattle.sheet.specs.Bytes.{Bytes}
@@ -26,12 +26,6 @@ use Rattle.listing_text.specs.Listing.{listing}
 use Rattle.listing_text.specs.Pieces.{textSize}
 use Rattle.listing_text.specs.Printed.{Uncut}
 use Rattle.listing_text.proofs.Fits.{refused-line-short, uncut}
-
--- one of a table whose numbers are at most m
-among-most : (k m : ℕ) (table : List ℕ) → All (λ n. n ≤ m) table → T (isAmong k table) → k ≤ m
-among-most k m [] a t = absurd t
-among-most k m (n ∷ table) a t =
-    by-test (eqb k n) (λ e. omega (arith, eqb-true k n e, a .0)) (λ e. among-most k m table (a .1) (rw e at t))
 
 -- reading into them refuses by the sheet alone
 pub refused-by-the-sheet : (b : List ℕ) → Bytes b → readAnswer b mostNumbers .refusal ≡ sheetRefusal b
@@ -55,7 +49,7 @@ pub refused-short : (b : List ℕ) (k : ℕ) → Bytes b → sheetRefusal b ≡ 
 refused-short b k bs e =
     let tabled = rw (refused-by-the-sheet b bs, e) at (read-refuses-as-tabled b mostNumbers) in
     let small = tested (λ n. n ≤ 17) (λ n. leb n 17) (λ n t. leb→le n 17 t) readTable tt in
-    refused-line-short (suc k) (among-most (suc k) 17 readTable small (tabled .is))
+    refused-line-short (suc k) (among-all (λ n. n ≤ 17) (suc k) readTable small tabled)
 
 pub printed-refused : (b : List ℕ) (k : ℕ) → Bytes b → sheetRefusal b ≡ suc k
     → (listing b ≡ refusedLine (suc k)) × Uncut (refusedLine (suc k))

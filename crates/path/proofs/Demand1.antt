@@ -10,7 +10,7 @@ use lib.ListN.{length, drop}
 use borrow.Author.Tests.{leb-true}
 use Rattle.rules.specs.Refusals.{unless, firstOf, refusalOr, filled, Among}
 use Rattle.rules.specs.Rules.{reach, isLevel, areLimits, standardUpper, standardLower, isSize, arePoints, areChained, pointsRefusal}
-use Rattle.rules.proofs.Refusals.{rule-kept, line-among, among, first-kept, first-among, number-answered, refused-answers}
+use Rattle.rules.proofs.Refusals.{rule-kept, line-among, among, first-kept, first-among, number-answered, refused-answers, filled-refused}
 use Rattle.entries.specs.Entries.{entrySize, flat}
 use Rattle.entries.specs.Length.{lengthOf}
 use Rattle.path.specs.declared.Drawn.{Drawn}
@@ -90,11 +90,8 @@ refused-draw-answers-zeros F p room = answers-zeros (drawRefusal F p room) (answ
 
 pub refused-draw-changes-nothing : (F : ℕ) (p : Path) (list : List ℤ) → (drawn F p (length list) .refusal ≡ 0 → ⊥) → written F p list ≡ list
 unfolding written
-refused-draw-changes-nothing F p list h = by-number (drawRefusal F p (length list)) (λ e. h (drawn-refusal F p (length list) ∙ e))
-  where
-    by-number : (k : ℕ) → (k ≡ 0 → ⊥) → filled k (flat (entries F p)) list ≡ list
-    by-number zero h = absurd (h refl)
-    by-number (suc k) h = refl
+refused-draw-changes-nothing F p list h =
+    filled-refused (flat (entries F p)) list (drawRefusal F p (length list)) (λ e. h (drawn-refusal F p (length list) ∙ e))
 
 -- ---- the list
 

@@ -1,11 +1,15 @@
--- How tables of refusals are read, and the two ways of an answer: a refusal, or else the answer.
-use mathlib.Core.Path.{_≡_, refl, sym, ap, _∙_}
+-- How tables of refusals are read; the two ways of an answer, a refusal or else the answer; and what a lent buffer holds afterwards.
+use mathlib.Core.Path.{_≡_, refl, sym, ap, subst, _∙_}
 use mathlib.Core.Bool.{Bool, true, false}
-use mathlib.Core.List.{List}
+use mathlib.Core.List.{List, [], _∷_, _++_}
 use Prim.Native.Nat.{ℕ, zero, suc}
 use native.Mathlib.Omega.{arith}
-use lib.Dec.{T}
-use Rattle.rules.specs.Refusals.{unless, firstOf, refusalOr, isAmong, Among}
+use lib.Dec.{T, eqb}
+use lib.ListN.{length, take, drop}
+use lib.Seq.{take-append-seam, drop-append-seam}
+use borrow.Author.Tests.{eqb-true}
+use Rattle.numbers.specs.Tables.{All}
+use Rattle.rules.specs.Refusals.{unless, firstOf, refusalOr, filled, isAmong, Among}
 
 -- ---- one line of a table
 
@@ -22,6 +26,15 @@ line-among false h t = h
 -- a written number in a written table
 pub among : {k : ℕ} {table : List ℕ} → T (isAmong k table) → Among k table
 among t = record { is = t }
+
+-- what holds of all numbers of a table holds of one among them
+pub among-all : (P : ℕ → Type 0) (k : ℕ) (table : List ℕ) → All P table → Among k table → P k
+among-all P k [] a t = absurd (t .is)
+among-all P k (n ∷ table) a t = by-first (eqb k n) refl (λ e. among-all P k table (a .1) (record { is = rw e at (t .is) }))
+  where
+    by-first : (b : Bool) → eqb k n ≡ b → (eqb k n ≡ false → P k) → P k
+    by-first true e rest = subst P (sym (eqb-true k n e)) (a .0)
+    by-first false e rest = rest e
 
 -- ---- one table and then another
 
@@ -68,3 +81,16 @@ module _ {A : Type 0} (refused : ℕ → A) (answer : A) where
     -- and where there is none
     pub accepted-answers : (k : ℕ) → number (refusalOr k refused answer) ≡ 0 → refusalOr k refused answer ≡ answer
     accepted-answers k e = answers (sym (number-answered k) ∙ e)
+
+-- ---- a lent buffer afterwards
+
+module _ {A : Type 0} (values buffer : List A) where
+  pub filled-refused : (k : ℕ) → (k ≡ 0 → ⊥) → filled k values buffer ≡ buffer
+  filled-refused k h = sym (refuses (λ _. buffer) (values ++ drop (length values) buffer) {k = k} refl h)
+
+  -- without a refusal: the values, and what stood after them
+  pub filled-front : take (length values) (filled 0 values buffer) ≡ values
+  filled-front = take-append-seam values (drop (length values) buffer)
+
+  pub filled-after : drop (length values) (filled 0 values buffer) ≡ drop (length values) buffer
+  filled-after = drop-append-seam values (drop (length values) buffer)

@@ -8,7 +8,7 @@ use lib.IntN.{ℤ}
 use lib.ListN.{length}
 use Rattle.rules.specs.Refusals.{Among}
 use Rattle.rules.specs.Rules.{finest, reach, isLevel, areLimits, isSegments, headRefusal, arePoints, areChained, pointsRefusal}
-use Rattle.rules.proofs.Refusals.{first-among, line-among, among}
+use Rattle.rules.proofs.Refusals.{first-among, line-among, among, filled-refused}
 use Rattle.sheet.specs.Bytes.{u32At}
 use Rattle.sheet.specs.Sheet.{Target, leastBytes, mostBytes, mostPaths, listHead, headSize, sheetBytes, sheetNumbers}
 use Rattle.sheet.specs.Records.{recordEnd, sheetAt}
@@ -17,7 +17,7 @@ use Rattle.sheet.specs.PathRules.{pathRules}
 use Rattle.sheet.specs.Reading.{isOffset, bodyRefusal, recordRefusal, recordsRefusal, sheetRefusal, readRefusal}
 use Rattle.sheet.specs.Writing.{pathRefusal, pathsRefusal, listRefusal, writeRefusal}
 use Rattle.sheet.specs.Answer.{readTable, writeTable, readAnswer, numbersRead, writeAnswer, bytesWritten}
-use Rattle.sheet.proofs.Room.{answered, answered-refusal, refused-answer, refused-buffer, roomRefusal}
+use Rattle.sheet.proofs.Room.{answered, answered-refusal, refused-answer, roomRefusal}
 
 -- ---- the tables
 
@@ -87,9 +87,9 @@ refused-write-answers-zero l room h = rw answered-refusal (refused-answer _ _ (r
 pub refused-read-changes-nothing : (b : List ℕ) (numbers : List ℤ) → (readAnswer b (length numbers) .refusal ≡ 0 → ⊥)
     → numbersRead b numbers ≡ numbers
 unfolding readAnswer numbersRead
-refused-read-changes-nothing b numbers h = refused-buffer _ (sheetNumbers (sheetAt b)) numbers (rw answered-refusal at h)
+refused-read-changes-nothing b numbers h = filled-refused (sheetNumbers (sheetAt b)) numbers _ (rw answered-refusal at h)
 
 pub refused-write-changes-nothing : (l : List ℤ) (sheet : List ℕ) → (writeAnswer l (length sheet) .refusal ≡ 0 → ⊥)
     → bytesWritten l sheet ≡ sheet
 unfolding writeAnswer bytesWritten
-refused-write-changes-nothing l sheet h = refused-buffer _ (sheetBytes (sheetOf l)) sheet (rw answered-refusal at h)
+refused-write-changes-nothing l sheet h = filled-refused (sheetBytes (sheetOf l)) sheet _ (rw answered-refusal at h)

@@ -8,7 +8,7 @@ use lib.ListN.{length, take, drop}
 use lib.Seq.{sets, take-append-seam}
 use Rattle.numbers.proofs.Buffers.{sets-front}
 use Rattle.rules.specs.Refusals.{unless, firstOf, refusalOr, filled}
-use Rattle.rules.proofs.Refusals.{rule-kept, first-kept, first-stop, refuses, number-answered}
+use Rattle.rules.proofs.Refusals.{rule-kept, first-kept, first-stop, refuses, number-answered, filled-refused}
 use Rattle.sheet.specs.declared.Written.{Written}
 use Rattle.sheet.specs.Answer.{refusedBy, wrote}
 
@@ -22,9 +22,6 @@ answered-refusal k count = number-answered refusedBy (wrote count) (λ w. w .ref
 
 pub refused-answer : (k count : ℕ) → (k ≡ 0 → ⊥) → answered k count ≡ refusedBy k
 refused-answer k count h = sym (refuses refusedBy (wrote count) refl h)
-
-pub refused-buffer : {A : Type 0} (k : ℕ) (values buffer : List A) → (k ≡ 0 → ⊥) → filled k values buffer ≡ buffer
-refused-buffer k values buffer h = sym (refuses (λ _. buffer) (values ++ drop (length values) buffer) {k = k} refl h)
 
 -- ---- by the room
 
@@ -70,7 +67,7 @@ Outcome k values buffer answer after =
 module _ {A : Type 0} {k r : ℕ} {answer : Written} (values buffer : List A) (e : r ≡ k) where
   pub refused : (r ≡ 0 → ⊥) → answer ≡ refusedBy r → Outcome k values buffer answer buffer
   refused h a =
-      rw (a, sym e, first-stop r _ h) (sym (refused-answer r (length values) h), sym (refused-buffer r values buffer h))
+      rw (a, sym e, first-stop r _ h) (sym (refused-answer r (length values) h), sym (filled-refused values buffer r h))
 
   module _ {n : ℕ} (z : r ≡ 0) (counted : n ≡ length values) where
     pub without-room : length buffer < n → answer ≡ refusedBy 9 → Outcome k values buffer answer buffer

@@ -1,7 +1,7 @@
 -- A cast to 32 bits keeps each number, since it fits.
 use mir.Facts.{toZ-ofZ}
 use Rattle.numbers.proofs.Machine.{reads-back, widens, narrows}
-use Rattle.engine.proofs.Fitting.{registers-fit}
+use Rattle.coordinate.proofs.Bits.{registers-fit}
 use Rattle.engine.proofs.turning.narrow.Statement.{statement}
 use Rattle.engine.proofs.turning.narrow.Tie as tie
 

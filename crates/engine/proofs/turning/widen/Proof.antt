@@ -1,7 +1,8 @@
 -- A cast to 64 bits keeps each number.
 use mir.Facts.{toZ-ofZ}
 use Rattle.numbers.proofs.Machine.{field, fits, reads-back, widens}
-use Rattle.engine.proofs.Fitting.{Fits32, told}
+use Rattle.coordinate.proofs.Bits.{Fits32}
+use Rattle.engine.proofs.Fitting.{told}
 use Rattle.engine.proofs.turning.widen.Statement.{statement}
 use Rattle.engine.proofs.turning.widen.Tie as tie
 
