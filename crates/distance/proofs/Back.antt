@@ -10,16 +10,17 @@ use borrow.Author.Tests.{lt-ltb, eq-eqb, ltb-true}
 use Rattle.rules.specs.Refusals.{unless}
 use Rattle.rules.proofs.Refusals.{rule-kept}
 use Rattle.coordinate.specs.declared.Registers.{Registers}
+use Rattle.operations.specs.Coordinates.{Coordinate, in-x, in-y}
+use Rattle.operations.specs.Position.{stride, isAligned}
+use Rattle.operations.proofs.Stays.{two-finer}
 use Rattle.engine.specs.declared.Drawing.{Drawing}
 use Rattle.engine.specs.declared.Moved.{Moved}
 use Rattle.coordinate.specs.Curve.{Curve}
 use Rattle.coordinate.specs.Registers.{halve, double, turn}
-use Rattle.engine.specs.Drawing.{stride, isAligned, turned, moved, called}
+use Rattle.engine.specs.Drawing.{turned, moved, called, of}
 use Rattle.coordinate.proofs.Exact.{alpha}
 use Rattle.coordinate.proofs.Refined.{alpha-twice, two-steps}
-use Rattle.engine.proofs.Stays.{two-finer}
 use Rattle.coordinate.proofs.Back.{halve-after-double, double-after-halve}
-use Rattle.engine.specs.Coordinates.{Coordinate, in-x, in-y, of}
 use Rattle.distance.specs.Calls.{ruled}
 use Rattle.coordinate.proofs.Near.{At}
 use Rattle.coordinate.proofs.Stands.{Bounded}

@@ -1,17 +1,18 @@
 -- The operation that choosing names is never refused in a drawing that keeps the invariant, under any lawful limits.
 use mathlib.Core.Path.{_≡_, ap, _∙_}
 use mathlib.Core.Bool.{true}
-use Prim.Native.Nat.{ℕ, _^_, _<_}
-use borrow.Author.Tests.{lt-ltb}
+use Prim.Native.Nat.{ℕ, _-_, _*_, _%_, _^_, _<_}
+use borrow.Author.Tests.{lt-ltb, eq-eqb}
 use Rattle.rules.specs.Refusals.{unless, refusalOr}
 use Rattle.rules.specs.Rules.{areLimits}
+use Rattle.operations.specs.Coordinates.{Coordinate}
+use Rattle.operations.specs.Refusals.{gate, choiceRefusal}
+use Rattle.operations.proofs.Choice.{by-rules}
 use Rattle.engine.specs.declared.Drawing.{Drawing}
 use Rattle.coordinate.specs.Curve.{Curve}
 use Rattle.coordinate.specs.Registers.{Operation}
-use Rattle.engine.specs.Drawing.{gate, turned, moved, called}
-use Rattle.engine.specs.Choice.{chosen, choiceRefusal, says, refusedBy, choice}
-use Rattle.engine.proofs.Ends.{by-choice, halve-chosen, double-chosen}
-use Rattle.engine.specs.Coordinates.{Coordinate}
+use Rattle.engine.specs.Drawing.{of, turned, moved, called}
+use Rattle.engine.specs.Choice.{chosen, says, refusedBy, choice}
 use Rattle.distance.specs.Calls.{ruled}
 use Rattle.coordinate.proofs.Stands.{Bounded}
 use Rattle.distance.proofs.Kept.{Kept, kept-inside, call-settled}
@@ -21,13 +22,13 @@ pub chosen-ruled : (F upper lower : ℕ) (d : Drawing) → d .q < 2 ^ F → rule
 unfolding ruled
 chosen-ruled F upper lower d h =
     let end = lt-ltb (d .q) (2 ^ F) h in
-    by-choice F upper lower d (λ (op : Operation). ruled F op (d .level) (d .q) ≡ 0)
-    (λ e. let below = lt-ltb (d .level) F (halve-chosen F upper d e) in λ i. unless (end i) 5 (unless (below i) 6 0))
-    (λ e f.
-    let c = double-chosen F upper lower d f in
-    let above = lt-ltb 0 (d .level) (c .above) in
-    λ i. unless (end i) 5 (unless (above i) 7 (unless (c .aligned i) 8 0)))
-    (λ e f i. unless (end i) 5 0)
+    by-rules F upper lower (d .level) (d .q) (λ c. of c d) (λ (op : Operation). ruled F op (d .level) (d .q) ≡ 0)
+    (λ w. let below = lt-ltb (d .level) F (w .below) in λ i. unless (end i) 5 (unless (below i) 6 0))
+    (λ h w.
+    let above = lt-ltb 0 (d .level) (w .above) in
+    let even = eq-eqb (d .q % (2 * 2 ^ (F - d .level))) 0 (w .even) in
+    λ i. unless (end i) 5 (unless (above i) 7 (unless (even i) 8 0)))
+    (λ h g i. unless (end i) 5 0)
 
 module _ (F : ℕ) (f : Coordinate → Curve) (d : Drawing) (k : Kept F f d) (upper lower : ℕ) where
   pub choice-answers : areLimits upper lower ≡ true → d .q < 2 ^ F → choice F upper lower d ≡ says (chosen F upper lower d)

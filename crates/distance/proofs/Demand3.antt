@@ -14,11 +14,12 @@ use Rattle.coordinate.proofs.Points.{extent, reaches}
 use Rattle.coordinate.proofs.Sizes.{Tame}
 use Rattle.coordinate.proofs.Cubic.{cubic-tame}
 use Rattle.coordinate.proofs.Stands.{Bounded, bounded, stands}
+use Rattle.operations.specs.Coordinates.{Coordinate}
+use Rattle.operations.specs.Refusals.{startRefusal}
 use Rattle.engine.specs.declared.Drawing.{Drawing}
 use Rattle.engine.specs.declared.Moved.{Moved}
-use Rattle.engine.specs.Coordinates.{Coordinate, of}
-use Rattle.engine.specs.Drawing.{turned, moved, called}
-use Rattle.engine.specs.Start.{startRefusal, firstDrawing, started}
+use Rattle.engine.specs.Drawing.{of, turned, moved, called}
+use Rattle.engine.specs.Start.{firstDrawing, started}
 use Rattle.engine.specs.Choice.{chosen}
 use Rattle.engine.proofs.Accepted.{Accepted, accepted, start-begins}
 use Rattle.distance.specs.Calls.{after, travelled, ruled}

@@ -17,11 +17,13 @@ use Rattle.coordinate.specs.Registers.{Operation, halve, double, step, turn, ar
 use Rattle.coordinate.proofs.Turns.{halve-on, double-on, step-on}
 use Rattle.coordinate.proofs.Near.{At}
 use Rattle.coordinate.proofs.Stands.{Bounded}
+use Rattle.operations.specs.Coordinates.{Coordinate, in-x, in-y}
+use Rattle.operations.specs.Position.{stride, isDrawing, isAligned}
+use Rattle.operations.specs.Refusals.{gate, ownRefusal, callRefusal, registersRefusal}
+use Rattle.operations.proofs.Every.{true-every}
+use Rattle.operations.proofs.Gates.{is-drawing}
 use Rattle.engine.specs.declared.Drawing.{Drawing}
-use Rattle.engine.specs.Coordinates.{Coordinate, in-x, in-y, of}
-use Rattle.engine.specs.Drawing.{stride, isDrawing, isAligned, gate, ownRefusal, callRefusal, registersRefusal, turned, moved, called}
-use Rattle.engine.proofs.Every.{true-every}
-use Rattle.engine.proofs.Stays.{is-drawing}
+use Rattle.engine.specs.Drawing.{of, turned, moved, called}
 use Rattle.distance.specs.Calls.{ruled}
 
 -- `below` finer levels are left
@@ -42,13 +44,21 @@ pub kept-inside : (F : ℕ) (f : Coordinate → Curve) (d : Drawing) → Kept F 
 kept-inside F f d k =
     let whole : d .q % stride F (d .level) ≡ 0 =
     ap₂ (λ (u v : ℕ). u % v) (k .on in-x .whole) (stride-below F (d .level) (k .below) (k .levels)) ∙ mul-mod-left (k .on in-x .strides) (2 ^ k .below) in
-    is-drawing F (d .level) (d .q) (omega (arith, k .levels)) (k .on in-x .within) whole
+    is-drawing F (d .level) (d .q) (record { level = omega (arith, k .levels); position = k .on in-x .within; whole = whole })
+
+-- the document's numbers are those of the operations' own refusals
+ruled-own : (F : ℕ) (op : Operation) (n q : ℕ) → ruled F op n q ≡ unless (ltb q (2 ^ F)) 5 (ownRefusal F op n q)
+unfolding ruled isAligned
+ruled-own F halve n q = refl
+ruled-own F double n q = refl
+ruled-own F step n q = refl
 
 pub kept-ruled : (F : ℕ) (f : Coordinate → Curve) (d : Drawing) (op : Operation) → Kept F f d → callRefusal F op (d .level) (d .q) ≡ ruled F op (d .level) (d .q)
-unfolding callRefusal gate ruled
+unfolding callRefusal gate
 kept-ruled F f d op k =
     ap (λ (b : Bool). firstOf (unless b 10 (unless (ltb (d .q) (2 ^ F)) 5 0)) (ownRefusal F op (d .level) (d .q))) (kept-inside F f d k)
     ∙ by-test (ltb (d .q) (2 ^ F))
+    ∙ sym (ruled-own F op (d .level) (d .q))
   where
     by-test : (b : Bool) → firstOf (unless b 5 0) (ownRefusal F op (d .level) (d .q)) ≡ unless b 5 (ownRefusal F op (d .level) (d .q))
     by-test true = refl
@@ -58,9 +68,8 @@ kept-ruled F f d op k =
 
 -- before the end, and not refused by the operation itself
 pub allowed : (F : ℕ) (op : Operation) (n q : ℕ) → ruled F op n q ≡ 0 → (q < 2 ^ F) × (ownRefusal F op n q ≡ 0)
-unfolding ruled
 allowed F op n q e =
-    let f = rule-kept (ltb q (2 ^ F)) 4 (ownRefusal F op n q) e in
+    let f = rule-kept (ltb q (2 ^ F)) 4 (ownRefusal F op n q) (sym (ruled-own F op n q) ∙ e) in
     (ltb-true q (2 ^ F) (f .0), f .1)
 
 pub less-one : (n : ℕ) → suc n - 1 ≡ n
@@ -119,12 +128,12 @@ module _ (F : ℕ) (f : Coordinate → Curve) (fits : (c : Coordinate) → Bound
   unfolding Bounded
   kept-fits d k c = fits c (d .level) (k .below) (d .q) (of c d) (k .on c)
 
-  registers-kept : (d : Drawing) → Kept F f d → registersRefusal d ≡ 0
+  registers-kept : (d : Drawing) → Kept F f d → registersRefusal (λ c. of c d) ≡ 0
   unfolding registersRefusal
   registers-kept d k = ap (λ (b : Bool). unless b 10 0) (true-every (λ c. areRegisters (of c d)) (kept-fits d k))
 
   -- registers are never what refuses
-  call-ruled : (k : ℕ) (new : Drawing) → (k ≡ 0 → Kept F f new) → firstOf k (registersRefusal new) ≡ k
+  call-ruled : (k : ℕ) (new : Drawing) → (k ≡ 0 → Kept F f new) → firstOf k (registersRefusal (λ c. of c new)) ≡ k
   call-ruled zero new h = registers-kept new (h refl)
   call-ruled (suc k) new h = refl
 
@@ -132,5 +141,5 @@ module _ (F : ℕ) (f : Coordinate → Curve) (fits : (c : Coordinate) → Bound
   unfolding called
   call-settled d op k =
       ap (λ (m : ℕ). moved m d (turned F op d))
-      (ap (λ (m : ℕ). firstOf m (registersRefusal (turned F op d))) (kept-ruled F f d op k)
+      (ap (λ (m : ℕ). firstOf m (registersRefusal (λ c. of c (turned F op d)))) (kept-ruled F f d op k)
       ∙ call-ruled (ruled F op (d .level) (d .q)) (turned F op d) (kept-turned F f d op k))

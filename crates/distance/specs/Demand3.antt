@@ -12,9 +12,10 @@ use Rattle.coordinate.specs.Course.{Course}
 use Rattle.coordinate.specs.Registers.{Operation, halve, double, areRegisters}
 use Rattle.coordinate.specs.Shown.{pixel}
 use Rattle.coordinate.specs.Stands.{Stands}
+use Rattle.operations.specs.Coordinates.{Coordinate}
+use Rattle.operations.specs.Position.{isDrawing}
 use Rattle.engine.specs.declared.Drawing.{Drawing}
-use Rattle.engine.specs.Coordinates.{Coordinate, of}
-use Rattle.engine.specs.Drawing.{isDrawing, turned, moved, called}
+use Rattle.engine.specs.Drawing.{of, turned, moved, called}
 use Rattle.engine.specs.Choice.{says, choice}
 use Rattle.distance.specs.Calls.{ruled}
 

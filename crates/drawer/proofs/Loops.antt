@@ -13,13 +13,15 @@ use borrow.Author.Needs.{zero≤}
 use borrow.Author.Tests.{ltb-true, ltb-false}
 use Rattle.numbers.proofs.Buffers.{stored-all}
 use Rattle.rules.specs.Refusals.{refusalOr}
+use Rattle.operations.specs.Coordinates.{in-x}
+use Rattle.operations.specs.Position.{newPosition}
+use Rattle.operations.specs.Refusals.{choiceRefusal}
+use Rattle.operations.proofs.Gates.{choice-opens}
 use Rattle.engine.specs.declared.Drawing.{Drawing}
 use Rattle.engine.specs.declared.Moved.{Moved}
 use Rattle.coordinate.specs.Registers.{Operation, halve, double, step}
-use Rattle.engine.specs.Drawing.{newPosition, turned, called}
-use Rattle.engine.specs.Choice.{chosen, choiceRefusal, Said, says, refusedBy, choice, left}
-use Rattle.engine.specs.Coordinates.{in-x}
-use Rattle.engine.proofs.Answers.{choice-opens}
+use Rattle.engine.specs.Drawing.{turned, called}
+use Rattle.engine.specs.Choice.{chosen, Said, says, refusedBy, choice, left}
 use Rattle.distance.proofs.Choice.{choice-answers, chosen-accepted}
 use Rattle.entries.specs.declared.Entry.{Entry}
 use Rattle.entries.specs.Entries.{entrySize, numbers, flat}

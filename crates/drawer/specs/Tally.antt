@@ -5,7 +5,7 @@ use Prim.Native.Nat.{ℕ, _+_, _*_, _≤_, _<_}
 use lib.IntN.{ℤ}
 use lib.ListN.{length}
 use Rattle.rules.specs.Rules.{finest, degree, coordinates, mostSegments}
-use Rattle.engine.specs.Start.{startRefusal}
+use Rattle.operations.specs.Refusals.{startRefusal}
 use Rattle.entries.specs.declared.Entry.{Entry}
 use Rattle.entries.specs.Length.{moveLength}
 use Rattle.drawer.specs.declared.Plan.{Plan}

@@ -12,12 +12,13 @@ use Rattle.coordinate.specs.Course.{cubic}
 use Rattle.coordinate.specs.Registers.{startRegisters}
 use Rattle.coordinate.specs.Shown.{pixel}
 use Rattle.coordinate.proofs.Ends.{first-shown}
+use Rattle.operations.specs.Coordinates.{Coordinate, in-x, in-y, every}
+use Rattle.operations.specs.Refusals.{startRefusal}
+use Rattle.operations.proofs.Every.{every-true}
 use Rattle.engine.specs.declared.Moved.{Moved}
-use Rattle.engine.specs.Coordinates.{Coordinate, in-x, in-y, every}
 use Rattle.engine.specs.Drawing.{refused}
-use Rattle.engine.specs.Start.{startRefusal, nothingDrawn, firstDrawing, started}
+use Rattle.engine.specs.Start.{nothingDrawn, firstDrawing, started}
 use Rattle.engine.specs.Shown.{point}
-use Rattle.engine.proofs.Every.{every-true}
 
 pub record Accepted (F : ℕ) (p : Coordinate → Control) (n : ℕ) : Type 0 where
   pub coordinates : (c : Coordinate) → areCoordinates (p c) ≡ true

@@ -6,19 +6,21 @@ use Rattle.rules.specs.Rules.{areLimits}
 use Rattle.rules.proofs.Refusals.{rule-kept, first-kept, first-on, first-stop, refuses}
 use Rattle.coordinate.specs.declared.Registers.{Registers}
 use Rattle.coordinate.specs.Registers.{Operation, turn}
+use Rattle.operations.specs.Position.{newLevel, newPosition}
+use Rattle.operations.specs.Refusals.{gate, ownRefusal, callRefusal, registersRefusal, choiceRefusal}
+use Rattle.operations.specs.Lawful.{Open}
+use Rattle.operations.proofs.Gates.{opens}
 use Rattle.engine.specs.declared.Drawing.{Drawing}
 use Rattle.engine.specs.declared.Moved.{Moved}
-use Rattle.engine.specs.Drawing.{gate, ownRefusal, callRefusal, registersRefusal, newLevel, newPosition, turned, refused, moved, landed, called}
-use Rattle.engine.specs.Choice.{choiceRefusal}
-use Rattle.engine.proofs.Gates.{Open, opens}
+use Rattle.engine.specs.Drawing.{of, turned, refused, moved, landed, called}
 
 pub call-refused : (F : ℕ) (op : Operation) (d : Drawing) {k : ℕ} → k ≡ callRefusal F op (d .level) (d .q) → (k ≡ 0 → ⊥) → refused d k ≡ called F op d
 unfolding called
-call-refused F op d e h = refuses (refused d) _ (e ∙ sym (first-stop _ (registersRefusal (turned F op d)) (λ z. h (e ∙ z)))) h
+call-refused F op d e h = refuses (refused d) _ (e ∙ sym (first-stop _ (registersRefusal (λ c. of c (turned F op d))) (λ z. h (e ∙ z)))) h
 
 call-landed : (F : ℕ) (op : Operation) (d : Drawing) → callRefusal F op (d .level) (d .q) ≡ 0 → called F op d ≡ landed d (turned F op d)
 unfolding called landed
-call-landed F op d e = ap (λ (k : ℕ). moved k d (turned F op d)) (first-on _ (registersRefusal (turned F op d)) e)
+call-landed F op d e = ap (λ (k : ℕ). moved k d (turned F op d)) (first-on _ (registersRefusal (λ c. of c (turned F op d))) e)
 
 -- where level and q let through, the turned coordinates land
 pub call-lands : (F : ℕ) (op : Operation) (d : Drawing) (x y : Registers) (q : ℕ) (m : Moved) → callRefusal F op (d .level) (d .q) ≡ 0
@@ -27,11 +29,3 @@ pub call-lands : (F : ℕ) (op : Operation) (d : Drawing) (x y : Registers) (q :
 unfolding turned
 call-lands F op d x y q m e in-x in-y on l =
     l ∙ (λ i. landed d (record { level = newLevel op (d .level); q = on i; x = in-x i; y = in-y i })) ∙ sym (call-landed F op d e)
-
-pub call-opens : (F : ℕ) (op : Operation) (n q : ℕ) → callRefusal F op n q ≡ 0 → Open F n q × (ownRefusal F op n q ≡ 0)
-unfolding callRefusal
-call-opens F op n q e = let f = first-kept (gate F n q) (ownRefusal F op n q) e in (opens F n q (f .0), f .1)
-
-pub choice-opens : (F upper lower n q : ℕ) → choiceRefusal F upper lower n q ≡ 0 → (areLimits upper lower ≡ true) × Open F n q
-unfolding choiceRefusal
-choice-opens F upper lower n q e = let f = rule-kept (areLimits upper lower) 3 (gate F n q) e in (f .0, opens F n q (f .1))

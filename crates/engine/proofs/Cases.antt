@@ -16,10 +16,12 @@ use Rattle.coordinate.specs.declared.Control.{Control}
 use Rattle.coordinate.specs.Curve.{curve}
 use Rattle.coordinate.specs.Points.{areCoordinates, areNear}
 use Rattle.coordinate.specs.Registers.{Operation, halve, double, step, turn, startRegisters, areRegisters}
+use Rattle.operations.specs.Coordinates.{pick, every as everyCoordinate}
+use Rattle.operations.specs.Position.{isDrawing, isAligned}
+use Rattle.operations.specs.Refusals.{gate, callRefusal, registersRefusal, startRefusal}
 use Rattle.engine.specs.declared.Moved.{Moved}
-use Rattle.engine.specs.Coordinates.{pick, every as everyCoordinate}
-use Rattle.engine.specs.Drawing.{isDrawing, isAligned, gate, callRefusal, registersRefusal, turned, called}
-use Rattle.engine.specs.Start.{startRefusal, zeros, started}
+use Rattle.engine.specs.Drawing.{turned, called}
+use Rattle.engine.specs.Start.{zeros, started}
 
 -- the numbers that the document gives, where it gives them
 pub record Row : Type 0 where

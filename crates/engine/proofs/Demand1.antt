@@ -11,12 +11,14 @@ use Rattle.coordinate.specs.declared.Control.{Control}
 use Rattle.coordinate.specs.Points.{areCoordinates, areNear}
 use Rattle.coordinate.specs.Course.{cubic}
 use Rattle.coordinate.specs.Registers.{Operation, halve, double, step, areRegisters}
+use Rattle.operations.specs.Coordinates.{Coordinate, every}
+use Rattle.operations.specs.Position.{isDrawing, isAligned}
+use Rattle.operations.specs.Refusals.{gate, ownRefusal, callRefusal, registersRefusal, callTable, startRefusal, startTable, choiceRefusal, choiceTable, standardTable}
 use Rattle.engine.specs.declared.Drawing.{Drawing}
 use Rattle.engine.specs.declared.Moved.{Moved}
-use Rattle.engine.specs.Coordinates.{Coordinate, of, every}
-use Rattle.engine.specs.Drawing.{isDrawing, isAligned, gate, ownRefusal, callRefusal, registersRefusal, callTable, turned, refused, moved, called}
-use Rattle.engine.specs.Start.{startRefusal, startTable, nothingDrawn, firstDrawing, started}
-use Rattle.engine.specs.Choice.{Said, says, chosen, choiceRefusal, choiceTable, standardTable, refusedBy, choice}
+use Rattle.engine.specs.Drawing.{of, turned, refused, moved, called}
+use Rattle.engine.specs.Start.{nothingDrawn, firstDrawing, started}
+use Rattle.engine.specs.Choice.{Said, says, chosen, refusedBy, choice}
 
 -- ---- by the number of a refusal
 
@@ -45,12 +47,12 @@ common halve = record { none = among tt; end = among tt; outside = among tt }
 common double = record { none = among tt; end = among tt; outside = among tt }
 common step = record { none = among tt; end = among tt; outside = among tt }
 
-call-among : (F : ℕ) (op : Operation) (n q : ℕ) (new : Drawing) → Among (firstOf (callRefusal F op n q) (registersRefusal new)) (callTable op)
+call-among : (F : ℕ) (op : Operation) (n q : ℕ) (new : Drawing) → Among (firstOf (callRefusal F op n q) (registersRefusal (λ c. of c new))) (callTable op)
 unfolding callRefusal gate registersRefusal
 call-among F op n q new =
     let c = common op in
     let level = line-among (isDrawing F n q) (c .outside) (line-among (ltb q (2 ^ F)) (c .end) (c .none)) in
-    first-among (callRefusal F op n q) (registersRefusal new) (first-among (gate F n q) (ownRefusal F op n q) level (own-among F op n q))
+    first-among (callRefusal F op n q) (registersRefusal (λ c. of c new)) (first-among (gate F n q) (ownRefusal F op n q) level (own-among F op n q))
     (line-among (every (λ c. areRegisters (of c new))) (c .outside) (c .none))
 
 pub call-refuses-as-tabled : (F : ℕ) (op : Operation) (d : Drawing) → Among (called F op d .refusal) (callTable op)
@@ -59,7 +61,7 @@ call-refuses-as-tabled F op d = rw moved-refusal (call-among F op (d .level) (d 
 
 pub refused-call-changes-nothing : (F : ℕ) (op : Operation) (d : Drawing) → (called F op d .refusal ≡ 0 → ⊥) → called F op d .drawing ≡ d
 unfolding called
-refused-call-changes-nothing F op d = moved-refused (firstOf (callRefusal F op (d .level) (d .q)) (registersRefusal (turned F op d))) d (turned F op d)
+refused-call-changes-nothing F op d = moved-refused (firstOf (callRefusal F op (d .level) (d .q)) (registersRefusal (λ c. of c (turned F op d)))) d (turned F op d)
 
 -- ---- the start
 

@@ -1,11 +1,8 @@
 -- Laws of the engine's definitions that belong to no one function.
-pub mod Every
 pub mod Fitting
-pub mod Gates
 pub mod Answers
 pub mod Accepted
 pub mod Demand1
 pub mod Said
-pub mod Stays
 pub mod Ends
 pub mod Cases

@@ -1,4 +1,3 @@
-pub mod Coordinates
 pub mod Drawing
 pub mod Start
 pub mod Choice

@@ -1,28 +1,15 @@
--- The start of a drawing: 1 over all points of every coordinate, then 2, then 3.
-use mathlib.Core.List.{List, [], _∷_}
+-- The start of a drawing.
 use Prim.Native.Nat.{ℕ}
 use lib.IntN.{pos}
-use Rattle.rules.specs.Refusals.{unless}
-use Rattle.rules.specs.Rules.{reach, isLevel}
 use Rattle.coordinate.specs.declared.Registers.{Registers}
 use Rattle.coordinate.specs.declared.Control.{Control}
-use Rattle.coordinate.specs.Points.{areCoordinates, areNear}
 use Rattle.coordinate.specs.Course.{Course, cubic}
 use Rattle.coordinate.specs.Registers.{startRegisters}
+use Rattle.operations.specs.Coordinates.{Coordinate, in-x, in-y}
+use Rattle.operations.specs.Refusals.{startRefusal}
 use Rattle.engine.specs.declared.Drawing.{Drawing}
 use Rattle.engine.specs.declared.Moved.{Moved}
-use Rattle.engine.specs.Coordinates.{Coordinate, in-x, in-y, every}
 use Rattle.engine.specs.Drawing.{moved}
-
--- p: the control points of each coordinate
-unfoldable pub startRefusal : ℕ → (Coordinate → Control) → ℕ → ℕ
-startRefusal F p n =
-    unless (every (λ c. areCoordinates (p c))) 1
-    (unless (every (λ c. areNear reach (p c))) 2
-    (unless (isLevel F n) 3 0))
-
-abbrev pub startTable : List ℕ
-startTable = 0 ∷ 1 ∷ 2 ∷ 3 ∷ []
 
 -- every number 0
 abbrev pub zeros : Registers

@@ -3,7 +3,8 @@ ghost use mathlib.Core.Path.{_≡_};
 ghost use Prim.Native.Nat.{_≤_};
 ghost use Rattle.rules.specs.Rules.{finest};
 ghost use Rattle.coordinate.specs.Increment.{increment, doubledIncrement};
-ghost use Rattle.engine.specs.Choice.{wantsHalve, wantsDouble};
+ghost use Rattle.operations.specs.Choice.{wantsHalve, wantsDouble};
+ghost use Rattle.engine.specs.Drawing.{of};
 use crate::Drawing;
 use crate::refusals::is_aligned;
 use crate::turning::double_one;
@@ -13,7 +14,7 @@ use rules::FINEST;
 
 pub(crate) fn wants_halve(d: Drawing, upper: u32) -> bool
     requires { ⌜ d .level ≤ finest ⌝ }
-    ensures { λ r. ⌜ r ≡ wantsHalve finest upper d ⌝ }
+    ensures { λ r. ⌜ r ≡ wantsHalve finest upper (d .level) (λ c. of c d) ⌝ }
 {
     let n = d.level;
     let x = increment_of(d.x, n);
@@ -23,7 +24,7 @@ pub(crate) fn wants_halve(d: Drawing, upper: u32) -> bool
 
 pub(crate) fn wants_double(d: Drawing, upper: u32, lower: u32) -> bool
     requires { ⌜ d .level ≤ finest ⌝ }
-    ensures { λ r. ⌜ r ≡ wantsDouble finest upper lower d ⌝ }
+    ensures { λ r. ⌜ r ≡ wantsDouble finest upper lower (d .level) (d .q) (λ c. of c d) ⌝ }
 {
     let n = d.level;
     let q = d.q;

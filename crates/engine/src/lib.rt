@@ -7,7 +7,7 @@ mod turning;
 ghost use mathlib.Core.Path.{_≡_};
 ghost use Rattle.rules.specs.Rules.{finest, standardUpper, standardLower};
 ghost use Rattle.coordinate.specs.Registers.{halve, double, step};
-ghost use Rattle.engine.specs.Coordinates.{pick};
+ghost use Rattle.operations.specs.Coordinates.{pick};
 ghost use Rattle.engine.specs.Drawing.{called};
 ghost use Rattle.engine.specs.Start.{started};
 ghost use Rattle.engine.specs.Choice.{said, choice};

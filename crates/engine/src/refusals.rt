@@ -3,8 +3,8 @@ ghost use mathlib.Core.Path.{_≡_};
 ghost use Prim.Native.Nat.{_≤_};
 ghost use Rattle.rules.specs.Rules.{finest};
 ghost use Rattle.coordinate.specs.Registers.{halve, double};
-ghost use Rattle.engine.specs.Drawing.{stride, isDrawing, isAligned, gate, callRefusal};
-ghost use Rattle.engine.specs.Choice.{choiceRefusal};
+ghost use Rattle.operations.specs.Position.{stride, isDrawing, isAligned};
+ghost use Rattle.operations.specs.Refusals.{gate, callRefusal, choiceRefusal};
 use rules::FINEST;
 
 // The position at the end of a drawing.

@@ -7,8 +7,9 @@ use Rattle.coordinate.specs.Curve.{curve}
 use Rattle.coordinate.specs.Registers.{startRegisters, turn}
 use Rattle.coordinate.specs.Increment.{increment, doubledIncrement}
 use Rattle.coordinate.specs.Shown.{pixel}
-use Rattle.engine.specs.Drawing.{isAligned, turned}
-use Rattle.engine.specs.Choice.{wantsHalve, wantsDouble, chosen}
+use Rattle.operations.specs.Position.{isAligned}
+use Rattle.operations.specs.Choice.{wantsHalve, wantsDouble, choose}
+use Rattle.engine.specs.Drawing.{turned}
 use Rattle.entries.specs.Length.{moveLength, lengthFrom, lengthOf}
 use Rattle.path.specs.Path.{pathRefusal, pointAt, control, first}
 use Rattle.path.specs.Segment.{turnsIn, turns}
@@ -47,6 +48,6 @@ pub document-listing : listing documentBytes ≡ documentText
 unfolding listing sheetText pathsText pathText pathsLine pathLine entryLine entryLines named followed decimal decimalIn numeral sheetAt recordsAt
     recordAt valuesAt sheetRefusal recordsRefusal recordRefusal bodyRefusal isOffset pathRules headRefusal pointsRefusal measured
     pathRefusal isSegments isSize arePoints areChained areBeside isCoordinate areNeighbours isLevel areLimits entries following rest shownBy
-    entry turns turnsIn chosen wantsHalve wantsDouble increment doubledIncrement isAligned turned turn pixel first control pointAt
+    entry turns turnsIn choose wantsHalve wantsDouble increment doubledIncrement isAligned turned turn pixel first control pointAt
     startRegisters curve moveLength lengthFrom lengthOf
 document-listing = refl

@@ -12,8 +12,9 @@ use Rattle.numbers.proofs.Size.{Size, size-of, size-sum, size-by}
 use Rattle.numbers.proofs.Tables.{all-weaker}
 use Rattle.rules.specs.Rules.{finest}
 use Rattle.coordinate.specs.Shown.{pixel}
-use Rattle.engine.specs.Coordinates.{Coordinate, in-x, in-y, of}
-use Rattle.engine.proofs.Gates.{inside}
+use Rattle.operations.specs.Coordinates.{Coordinate, in-x, in-y}
+use Rattle.operations.proofs.Gates.{inside}
+use Rattle.engine.specs.Drawing.{of}
 use Rattle.distance.specs.Calls.{after}
 use Rattle.distance.proofs.Demand3.{fine}
 use Rattle.entries.specs.declared.Entry.{Entry}

@@ -11,9 +11,9 @@ use Rattle.rules.proofs.Refusals.{rule-kept, first-kept}
 use Rattle.rules.proofs.Laws.{coordinate-range, range-coordinate, neighbours-size, limits-hold, hold-limits, Sized, size-holds, holds-size}
 use Rattle.rules.proofs.Every.{points-hold, hold-points, chained-hold, hold-chained}
 use Rattle.coordinate.specs.Points.{areCoordinates, areNear}
-use Rattle.engine.specs.Coordinates.{Coordinate, in-x, in-y}
-use Rattle.engine.specs.Start.{startRefusal}
-use Rattle.engine.proofs.Every.{true-every}
+use Rattle.operations.specs.Coordinates.{Coordinate, in-x, in-y}
+use Rattle.operations.specs.Refusals.{startRefusal}
+use Rattle.operations.proofs.Every.{true-every}
 use Rattle.path.specs.Path.{Path, pathRefusal, pointAt, place, control, controls}
 use Rattle.path.specs.Lawful.{Lawful}
 

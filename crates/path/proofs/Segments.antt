@@ -8,10 +8,11 @@ use Rattle.rules.specs.Rules.{areLimits}
 use Rattle.coordinate.specs.Registers.{Operation}
 use Rattle.coordinate.proofs.Sizes.{Tame}
 use Rattle.coordinate.proofs.Stands.{Bounded, bounded}
+use Rattle.operations.specs.Coordinates.{Coordinate}
+use Rattle.operations.specs.Position.{isDrawing}
 use Rattle.engine.specs.declared.Drawing.{Drawing}
 use Rattle.engine.specs.declared.Moved.{Moved}
-use Rattle.engine.specs.Coordinates.{Coordinate}
-use Rattle.engine.specs.Drawing.{isDrawing, called}
+use Rattle.engine.specs.Drawing.{called}
 use Rattle.engine.specs.Start.{started}
 use Rattle.engine.specs.Choice.{chosen}
 use Rattle.engine.proofs.Accepted.{accepted, start-begins}

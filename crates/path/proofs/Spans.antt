@@ -16,11 +16,11 @@ use Rattle.coordinate.specs.Registers.{step}
 use Rattle.coordinate.specs.Shown.{pixel}
 use Rattle.coordinate.specs.Stands.{Stands}
 use Rattle.coordinate.proofs.Stands.{stands}
+use Rattle.operations.specs.Coordinates.{Coordinate, in-x, in-y}
+use Rattle.operations.specs.ThreeRules.{Rule1}
 use Rattle.engine.specs.declared.Drawing.{Drawing}
 use Rattle.engine.specs.declared.Moved.{Moved}
-use Rattle.engine.specs.Coordinates.{Coordinate, in-x, in-y, of}
-use Rattle.engine.specs.Drawing.{turned}
-use Rattle.engine.specs.Choice.{wantsHalve}
+use Rattle.engine.specs.Drawing.{of, turned}
 use Rattle.distance.specs.Calls.{after}
 use Rattle.distance.proofs.Touching.{touches}
 use Rattle.distance.proofs.Demand3.{demand-3}
@@ -73,7 +73,7 @@ module _ (F : ℕ) (p : Path) (k : ℕ) (s : Sound F p k) where
 
   -- ---- its entries touch and rise
 
-  step-follows : (d : Drawing) → Of F p k d → d .q < 2 ^ F → wantsHalve F (p .upper) d ≡ false → Follows (entry F k d) (entry F k (turned F step d))
+  step-follows : (d : Drawing) → Of F p k d → d .q < 2 ^ F → (Rule1 F (p .upper) (d .level) (λ c. of c d) → ⊥) → Follows (entry F k d) (entry F k (turned F step d))
   unfolding entry turned
   step-follows d on b e =
       let upper = limits-hold (p .upper) (p .lower) (s .limits) .most in

@@ -8,11 +8,13 @@ use native.Mathlib.Omega.{arith}
 use lib.Dec.{ltb}
 use borrow.Author.Tests.{ltb-true, ltb-false, lt-ltb, le-ltb}
 use Rattle.rules.specs.Refusals.{unless}
+use Rattle.operations.specs.Position.{isDrawing}
+use Rattle.operations.specs.Refusals.{gate, ownRefusal, callRefusal}
+use Rattle.operations.proofs.Gates.{inside}
+use Rattle.operations.proofs.Stays.{stays}
 use Rattle.engine.specs.declared.Drawing.{Drawing}
-use Rattle.engine.specs.Drawing.{isDrawing, gate, ownRefusal, callRefusal, turned}
+use Rattle.engine.specs.Drawing.{turned}
 use Rattle.engine.specs.Choice.{chosen, left}
-use Rattle.engine.proofs.Gates.{inside}
-use Rattle.engine.proofs.Stays.{stays}
 use Rattle.engine.proofs.Ends.{chosen-falls}
 use Rattle.rules.proofs.Refusals.{first-on}
 use Rattle.distance.proofs.Kept.{allowed}

@@ -4,12 +4,13 @@ use mathlib.Core.Path.{_≡_, refl}
 use mathlib.Core.Bool.{false}
 use mathlib.Core.List.{List, [], _∷_, _++_}
 use Prim.Native.Nat.{ℕ, _^_, _<_}
+use Rattle.operations.specs.ThreeRules.{Rule1}
+use Rattle.operations.proofs.Choice.{by-rules}
 use Rattle.engine.specs.declared.Drawing.{Drawing}
 use Rattle.coordinate.specs.Registers.{Operation, halve, double, step, turn}
-use Rattle.engine.specs.Drawing.{turned}
-use Rattle.engine.specs.Choice.{wantsHalve, chosen}
+use Rattle.engine.specs.Drawing.{of, turned}
+use Rattle.engine.specs.Choice.{chosen}
 use Rattle.coordinate.specs.Shown.{pixel}
-use Rattle.engine.proofs.Ends.{by-choice}
 use Rattle.entries.specs.declared.Entry.{Entry}
 use Rattle.path.specs.Path.{Path}
 use Rattle.path.specs.Segment.{Turn, next}
@@ -29,12 +30,12 @@ double-quiet F k d = (refl, refl)
 module _ (F : ℕ) (p : Path) (k : ℕ) (sound : Sound F p k) (P : Drawing → List Entry → Type 0)
     (end : (d : Drawing) → Held F p k d → d .q ≡ 2 ^ F → P d [])
     (quiet : (d d' : Drawing) → d' .q ≡ d .q → entry F k d' ≡ entry F k d → (es : List Entry) → P d' es → P d es)
-    (stepped : (d : Drawing) → Held F p k d → Held F p k (turned F step d) → d .q < 2 ^ F → wantsHalve F (p .upper) d ≡ false → (es : List Entry)
+    (stepped : (d : Drawing) → Held F p k d → Held F p k (turned F step d) → d .q < 2 ^ F → (Rule1 F (p .upper) (d .level) (λ c. of c d) → ⊥) → (es : List Entry)
     → P (turned F step d) es → P d (entry F k (turned F step d) ∷ es)) where
   turn-shown : (d : Drawing) → Held F p k d → d .q < 2 ^ F → (ts : List Turn) → P (next F (p .upper) (p .lower) d) (shownBy F k ts)
       → P d (shown F k (chosen F (p .upper) (p .lower) d) d ++ shownBy F k ts)
   turn-shown d held h ts =
-      by-choice F (p .upper) (p .lower) d
+      by-rules F (p .upper) (p .lower) (d .level) (d .q) (λ c. of c d)
       (λ (op : Operation). Held F p k (turned F op d) → P (turned F op d) (shownBy F k ts) → P d (shown F k op d ++ shownBy F k ts))
       (λ e held'. quiet d (turned F halve d) (halve-quiet F k d .0) (halve-quiet F k d .1) (shownBy F k ts))
       (λ e f held'. quiet d (turned F double d) (double-quiet F k d .0) (double-quiet F k d .1) (shownBy F k ts))

@@ -8,8 +8,8 @@ use lib.Signed.{_<ℤ_}
 use Rattle.numbers.specs.Tables.{All}
 use Rattle.rules.specs.Rules.{degree}
 use Rattle.coordinate.specs.Registers.{Operation, step}
+use Rattle.operations.specs.Coordinates.{in-x, in-y}
 use Rattle.engine.specs.declared.Drawing.{Drawing}
-use Rattle.engine.specs.Coordinates.{in-x, in-y}
 use Rattle.engine.specs.Drawing.{turned, called}
 use Rattle.engine.specs.Start.{started}
 use Rattle.engine.specs.Choice.{says, choice}

@@ -7,8 +7,8 @@ use Rattle.rules.specs.Refusals.{unless, firstOf}
 use Rattle.rules.specs.Rules.{reach, isLevel, areLimits, degree, coordinates, isSize, pointsRefusal}
 use Rattle.coordinate.specs.declared.Control.{Control}
 use Rattle.coordinate.specs.Course.{Course, cubic}
+use Rattle.operations.specs.Coordinates.{Coordinate, in-x, in-y}
 use Rattle.engine.specs.declared.Drawing.{Drawing}
-use Rattle.engine.specs.Coordinates.{Coordinate, in-x, in-y}
 use Rattle.engine.specs.Start.{firstDrawing}
 
 -- points: x0, y0, x1, y1, .., as on a sheet

@@ -18,6 +18,11 @@ pub rule-kept : (rule : Bool) (k rest : ℕ) → unless rule (suc k) rest ≡ 0 
 rule-kept true k rest e = (refl, e)
 rule-kept false k rest e = let no : ⊥ = omega arith in absurd no
 
+-- a rule that cannot hold is broken
+pub broken : (rule : Bool) → (rule ≡ true → ⊥) → rule ≡ false
+broken true h = absurd (h refl)
+broken false h = refl
+
 -- each line's number is in the table
 pub line-among : (rule : Bool) {k rest : ℕ} {table : List ℕ} → Among k table → Among rest table → Among (unless rule k rest) table
 line-among true h t = t

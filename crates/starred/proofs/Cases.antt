@@ -18,8 +18,9 @@ use Rattle.coordinate.specs.Curve.{curve}
 use Rattle.coordinate.specs.Registers.{startRegisters, turn}
 use Rattle.coordinate.specs.Increment.{increment, doubledIncrement}
 use Rattle.coordinate.specs.Shown.{pixel}
-use Rattle.engine.specs.Drawing.{isAligned, turned}
-use Rattle.engine.specs.Choice.{wantsHalve, wantsDouble, chosen}
+use Rattle.operations.specs.Position.{isAligned}
+use Rattle.operations.specs.Choice.{wantsHalve, wantsDouble, choose}
+use Rattle.engine.specs.Drawing.{turned}
 use Rattle.engine.proofs.Cases as engine
 use Rattle.entries.specs.Entries.{entrySize, flat}
 use Rattle.entries.specs.Length.{moveLength, lengthFrom, lengthOf}
@@ -155,7 +156,7 @@ all-listed ws t = all-map Holds draws ws (tested Listed right right-listed ws t)
 
 pub starred : All Holds table
 unfolding table moving still drawn written measured drawRefusal pathRefusal pointsRefusal isSegments isSize arePoints areChained areBeside isCoordinate
-    areNeighbours isLevel areLimits entries following rest first control pointAt curve startRegisters turns turnsIn chosen wantsHalve
+    areNeighbours isLevel areLimits entries following rest first control pointAt curve startRegisters turns turnsIn choose wantsHalve
     wantsDouble increment doubledIncrement isAligned turned turn shownBy entry pixel flat lengthOf lengthFrom moveLength
 starred =
     all-append Holds (map draws moving) (map calls engine.table ++ map draws still) (all-listed moving tt)

@@ -8,13 +8,13 @@ use lib.Seq.{length-sets}
 use borrow.Author.Needs.{needs}
 use Rattle.rules.specs.Rules.{finest, mostSegments}
 use Rattle.coordinate.specs.Registers.{halve, double, step}
+use Rattle.operations.specs.Coordinates.{in-x}
 use Rattle.engine.specs.Choice.{said, left}
 use Rattle.path.specs.Path.{Path, path}
 use Rattle.drawer.specs.Tally.{planned}
 use Rattle.path.proofs.Accepted.{accepted-lawful}
 use Rattle.path.proofs.Segments.{Sound, sound}
 use Rattle.distance.proofs.Demand3.{fine}
-use Rattle.engine.specs.Coordinates.{in-x}
 use Rattle.drawer.proofs.Due.{few-small}
 use Rattle.drawer.proofs.Loops.{segment-ready, Took, took, refused-ends, Inner, Outer, onward, turn-kept, inner-falls, inner-quiet, inner-step, outer-starts, inner-starts, outer-goes, all-shown}
 use Rattle.drawer.proofs.run.Statement.{statement}

@@ -3,9 +3,9 @@ use mathlib.Core.Path.{ap, _∙_}
 use borrow.Author.Needs.{needs}
 use Rattle.rules.specs.Rules.{finest}
 use Rattle.coordinate.specs.declared.Control.{Control}
+use Rattle.operations.specs.Coordinates.{Coordinate, pick}
+use Rattle.operations.proofs.Every.{picked}
 use Rattle.engine.specs.declared.Moved.{Moved}
-use Rattle.engine.specs.Coordinates.{Coordinate, pick}
-use Rattle.engine.proofs.Every.{picked}
 use Rattle.engine.specs.Start.{started}
 use Rattle.engine.proofs.Accepted.{start-begins}
 use Rattle.path.specs.Path.{controls, first}

@@ -6,8 +6,9 @@ use borrow.Author.Needs.{needs}
 use borrow.Author.Tests.{ltb-true}
 use Rattle.rules.proofs.Refusals.{rule-kept}
 use Rattle.coordinate.specs.Registers.{double}
-use Rattle.engine.specs.Drawing.{callRefusal}
-use Rattle.engine.proofs.Answers.{call-opens, call-refused, call-lands}
+use Rattle.operations.specs.Refusals.{callRefusal}
+use Rattle.operations.proofs.Gates.{call-opens}
+use Rattle.engine.proofs.Answers.{call-refused, call-lands}
 use Rattle.engine.proofs.Drawing.double.Statement.{statement}
 use Rattle.engine.proofs.Drawing.double.Tie as tie
 

@@ -5,8 +5,9 @@ use native.Mathlib.Omega.{arith}
 use Rattle.rules.specs.Rules.{finest}
 use borrow.Author.Needs.{needs}
 use Rattle.coordinate.specs.Registers.{halve}
-use Rattle.engine.specs.Drawing.{callRefusal}
-use Rattle.engine.proofs.Answers.{call-opens, call-refused, call-lands}
+use Rattle.operations.specs.Refusals.{callRefusal}
+use Rattle.operations.proofs.Gates.{call-opens}
+use Rattle.engine.proofs.Answers.{call-refused, call-lands}
 use Rattle.engine.proofs.Drawing.halve.Statement.{statement}
 use Rattle.engine.proofs.Drawing.halve.Tie as tie
 

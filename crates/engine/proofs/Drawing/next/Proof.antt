@@ -1,11 +1,13 @@
--- A refusal names no operation; otherwise the two tests choose as `chosen` does.
+-- A refusal names no operation; otherwise the two tests choose as `choose` does.
 use mathlib.Core.Path.{_≡_, sym, _∙_}
 use Prim.Native.Nat.{_≤_}
 use Rattle.rules.specs.Rules.{finest}
 use Rattle.rules.proofs.Refusals.{refuses}
 use borrow.Author.Needs.{needs}
-use Rattle.engine.specs.Choice.{choiceRefusal, refusedBy, choice, chosen}
-use Rattle.engine.proofs.Answers.{choice-opens}
+use Rattle.operations.specs.Refusals.{choiceRefusal}
+use Rattle.operations.specs.Choice.{choose}
+use Rattle.operations.proofs.Gates.{choice-opens}
+use Rattle.engine.specs.Choice.{refusedBy, choice}
 use Rattle.engine.proofs.Drawing.next.Statement.{statement}
 use Rattle.engine.proofs.Drawing.next.Tie as tie
 
@@ -27,19 +29,19 @@ wants-halve-requires : tie.Need-wants-halve-requires
 wants-halve-requires c κs = low c
 
 returns-2 : tie.Need-returns-2
-unfolding choice chosen
+unfolding choice choose
 returns-2 c = simp (passes (c .before .before), sym (c .before .wants-halve .ensures) ∙ c .if2 .taken)
 
 wants-double-requires : tie.Need-wants-double-requires
 wants-double-requires c κs = low (c .before .before)
 
 returns-3 : tie.Need-returns-3
-unfolding choice chosen
+unfolding choice choose
 returns-3 c =
     simp (passes (c .before .before .before .before), sym (c .before .before .before .wants-halve .ensures) ∙ c .before .before .if2 .left, sym (c .before .wants-double .ensures) ∙ c .if3 .taken)
 
 returns-4 : tie.Need-returns-4
-unfolding choice chosen
+unfolding choice choose
 returns-4 c =
     simp (passes (c .before .before .before .before), sym (c .before .before .before .wants-halve .ensures) ∙ c .before .before .if2 .left, sym (c .before .wants-double .ensures) ∙ c .if3 .left)
 

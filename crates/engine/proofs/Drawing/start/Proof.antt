@@ -4,9 +4,10 @@ use borrow.Author.Needs.{needs}
 use Rattle.rules.specs.Rules.{finest}
 use Rattle.rules.proofs.Refusals.{refuses}
 use Rattle.coordinate.specs.Course.{cubic}
-use Rattle.engine.specs.Coordinates.{in-x, in-y, pick}
+use Rattle.operations.specs.Coordinates.{in-x, in-y, pick}
+use Rattle.operations.specs.Refusals.{startRefusal}
 use Rattle.engine.specs.Drawing.{refused}
-use Rattle.engine.specs.Start.{startRefusal, nothingDrawn, started}
+use Rattle.engine.specs.Start.{nothingDrawn, started}
 use Rattle.engine.proofs.Accepted.{Accepted, accepted, start-begins}
 use Rattle.engine.proofs.Drawing.start.Statement.{statement}
 use Rattle.engine.proofs.Drawing.start.Tie as tie

@@ -6,9 +6,10 @@ use Rattle.rules.specs.Refusals.{firstOf}
 use Rattle.rules.specs.Rules.{finest}
 use borrow.Author.Needs.{needs}
 use Rattle.coordinate.specs.Registers.{step}
-use Rattle.engine.specs.Drawing.{gate, callRefusal}
-use Rattle.engine.proofs.Stays.{step-within}
-use Rattle.engine.proofs.Answers.{call-opens, call-refused, call-lands}
+use Rattle.operations.specs.Refusals.{gate, callRefusal}
+use Rattle.operations.proofs.Gates.{call-opens}
+use Rattle.operations.proofs.Stays.{step-within}
+use Rattle.engine.proofs.Answers.{call-refused, call-lands}
 use Rattle.engine.proofs.Drawing.step.Statement.{statement}
 use Rattle.engine.proofs.Drawing.step.Tie as tie
 

@@ -2,7 +2,7 @@
 use native.Mathlib.Omega.{arith}
 use borrow.Author.Needs.{needs}
 use borrow.Author.Tests.{lt-ltb}
-use Rattle.engine.specs.Choice.{wantsDouble}
+use Rattle.operations.specs.Choice.{wantsDouble}
 use Rattle.engine.proofs.choosing.wants_double.Statement.{statement}
 use Rattle.engine.proofs.choosing.wants_double.Tie as tie
 

@@ -1,6 +1,6 @@
 -- The increments are those of `wantsHalve`.
 use borrow.Author.Needs.{needs}
-use Rattle.engine.specs.Choice.{wantsHalve}
+use Rattle.operations.specs.Choice.{wantsHalve}
 use Rattle.engine.proofs.choosing.wants_halve.Statement.{statement}
 use Rattle.engine.proofs.choosing.wants_halve.Tie as tie
 

@@ -2,7 +2,7 @@
 use mathlib.Core.Path.{sym, _∙_}
 use borrow.Author.Needs.{needs}
 use borrow.Author.Tests.{not-true, not-false}
-use Rattle.engine.specs.Choice.{choiceRefusal}
+use Rattle.operations.specs.Refusals.{choiceRefusal}
 use Rattle.engine.proofs.refusals.choice_refusal.Statement.{statement}
 use Rattle.engine.proofs.refusals.choice_refusal.Tie as tie
 

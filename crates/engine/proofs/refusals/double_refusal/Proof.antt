@@ -7,8 +7,8 @@ use borrow.Author.Needs.{needs}
 use borrow.Author.Tests.{lt-ltb, not-true, not-false}
 use Rattle.rules.specs.Rules.{finest}
 use Rattle.rules.proofs.Refusals.{first-on, first-stop}
-use Rattle.engine.specs.Drawing.{gate, callRefusal}
-use Rattle.engine.proofs.Gates.{opens}
+use Rattle.operations.specs.Refusals.{gate, callRefusal}
+use Rattle.operations.proofs.Gates.{opens}
 use Rattle.engine.proofs.refusals.double_refusal.Statement.{statement}
 use Rattle.engine.proofs.refusals.double_refusal.Tie as tie
 

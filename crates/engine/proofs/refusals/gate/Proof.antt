@@ -2,7 +2,7 @@
 use mathlib.Core.Path.{sym, _∙_}
 use borrow.Author.Needs.{needs}
 use borrow.Author.Tests.{le-ltb, lt-ltb, leb-true, leb-false, not-true, not-false}
-use Rattle.engine.specs.Drawing.{gate}
+use Rattle.operations.specs.Refusals.{gate}
 use Rattle.engine.proofs.refusals.gate.Statement.{statement}
 use Rattle.engine.proofs.refusals.gate.Tie as tie
 

@@ -4,7 +4,7 @@ use borrow.Author.Needs.{needs}
 use borrow.Author.Tests.{le-ltb, lt-ltb}
 use Rattle.rules.specs.Rules.{finest}
 use Rattle.rules.proofs.Refusals.{first-on, first-stop}
-use Rattle.engine.specs.Drawing.{gate, callRefusal}
+use Rattle.operations.specs.Refusals.{gate, callRefusal}
 use Rattle.engine.proofs.refusals.halve_refusal.Statement.{statement}
 use Rattle.engine.proofs.refusals.halve_refusal.Tie as tie
 

@@ -4,8 +4,8 @@ use native.Mathlib.Omega.{arith}
 use lib.Pow.{pow-pos}
 use borrow.Author.Needs.{needs}
 use Rattle.rules.specs.Rules.{finest}
-use Rattle.engine.specs.Drawing.{isAligned}
-use Rattle.engine.proofs.Gates.{stride-most}
+use Rattle.operations.specs.Position.{isAligned}
+use Rattle.operations.proofs.Gates.{stride-most}
 use Rattle.engine.proofs.refusals.is_aligned.Statement.{statement}
 use Rattle.engine.proofs.refusals.is_aligned.Tie as tie
 

@@ -4,7 +4,7 @@ use lib.Pow.{pow-pos}
 use borrow.Author.Needs.{needs}
 use borrow.Author.Tests.{lt-leb, le-leb}
 use Rattle.rules.specs.Rules.{finest}
-use Rattle.engine.specs.Drawing.{isDrawing}
+use Rattle.operations.specs.Position.{isDrawing}
 use Rattle.engine.proofs.refusals.is_drawing.Statement.{statement}
 use Rattle.engine.proofs.refusals.is_drawing.Tie as tie
 

@@ -5,7 +5,7 @@ use native.Mathlib.Nat.{mod-eq-of-lt, one-mul}
 use native.Mathlib.Omega.{arith}
 use borrow.Author.Needs.{needs}
 use Rattle.rules.specs.Rules.{finest}
-use Rattle.engine.proofs.Gates.{stride-most}
+use Rattle.operations.proofs.Gates.{stride-most}
 use Rattle.engine.proofs.refusals.stride.Statement.{statement}
 use Rattle.engine.proofs.refusals.stride.Tie as tie
 

@@ -5,8 +5,8 @@ use borrow.Author.Needs.{needs}
 use borrow.Author.Tests.{not-true, not-false}
 use Rattle.rules.specs.Rules.{reach}
 use Rattle.coordinate.specs.Points.{areCoordinates, areNear}
-use Rattle.engine.specs.Coordinates.{every}
-use Rattle.engine.specs.Start.{startRefusal}
+use Rattle.operations.specs.Coordinates.{every}
+use Rattle.operations.specs.Refusals.{startRefusal}
 use Rattle.engine.proofs.starting.start_refusal.Statement.{statement}
 use Rattle.engine.proofs.starting.start_refusal.Tie as tie
 

@@ -4,8 +4,9 @@ use mathlib.Core.Bool.{true, _&&_}
 use borrow.Author.Needs.{needs}
 use Rattle.numbers.proofs.Tests.{and-true}
 use Rattle.coordinate.specs.Registers.{areRegisters}
-use Rattle.engine.specs.Coordinates.{every}
-use Rattle.engine.specs.Drawing.{registersRefusal, landed}
+use Rattle.operations.specs.Coordinates.{every}
+use Rattle.operations.specs.Refusals.{registersRefusal}
+use Rattle.engine.specs.Drawing.{landed}
 use Rattle.engine.specs.Wide.{narrowed}
 use Rattle.engine.proofs.turning.land.Statement.{statement}
 use Rattle.engine.proofs.turning.land.Tie as tie

@@ -1,22 +1,20 @@
--- What it says of level and q that a call is not refused, and that nothing is cut off where specs/ subtract.
+-- What it says of level and q that a call or choosing is not refused by them, and that nothing is cut off where specs/ subtract.
 use mathlib.Core.Path.{_≡_, sym, ap, _∙_}
-use mathlib.Core.Bool.{true}
-use Prim.Native.Nat.{ℕ, _+_, _-_, _*_, _%_, _^_, _≤_, _<_}
+use mathlib.Core.Bool.{true, _&&_}
+use Prim.Native.Nat.{ℕ, _+_, _-_, _*_, _%_, _^_, _≤_}
 use native.Mathlib.Nat.{sub-le}
 use native.Mathlib.Omega.{arith}
 use lib.Dec.{leb, ltb, eqb}
 use lib.Pow.{pow-add, pow-mono}
-use borrow.Author.Tests.{leb-true, ltb-true, eqb-true}
+use borrow.Author.Tests.{leb-true, ltb-true, eqb-true, le-leb, eq-eqb}
 use Rattle.numbers.proofs.Tests.{and-three}
 use Rattle.rules.specs.Refusals.{unless}
+use Rattle.rules.specs.Rules.{areLimits}
 use Rattle.rules.proofs.Refusals.{rule-kept, first-kept}
-use Rattle.coordinate.specs.Registers.{double}
-use Rattle.engine.specs.Drawing.{stride, isDrawing, isAligned, gate, ownRefusal, callRefusal}
-
-pub record Inside (F n q : ℕ) : Type 0 where
-  pub level : n ≤ F
-  pub position : q ≤ 2 ^ F
-  pub whole : q % stride F n ≡ 0
+use Rattle.coordinate.specs.Registers.{Operation, double}
+use Rattle.operations.specs.Position.{stride, isDrawing, isAligned}
+use Rattle.operations.specs.Refusals.{gate, ownRefusal, callRefusal, choiceRefusal}
+use Rattle.operations.specs.Lawful.{Inside, Open}
 
 pub inside : (F n q : ℕ) → isDrawing F n q ≡ true → Inside F n q
 unfolding isDrawing
@@ -28,10 +26,11 @@ inside F n q e =
       whole = eqb-true (q % stride F n) 0 (t .2);
     }
 
--- a gate that lets through
-pub record Open (F n q : ℕ) : Type 0 where
-  pub inside : Inside F n q
-  pub before-end : q < 2 ^ F
+pub is-drawing : (F n q : ℕ) → Inside F n q → isDrawing F n q ≡ true
+unfolding isDrawing
+is-drawing F n q i = λ k. le-leb n F (i .level) k && le-leb q (2 ^ F) (i .position) k && eq-eqb (q % stride F n) 0 (i .whole) k
+
+-- ---- a gate that lets through
 
 pub opens : (F n q : ℕ) → gate F n q ≡ 0 → Open F n q
 unfolding gate
@@ -40,10 +39,18 @@ opens F n q e =
     let g = rule-kept (ltb q (2 ^ F)) 4 0 (f .1) in
     record { inside = inside F n q (f .0); before-end = ltb-true q (2 ^ F) (g .0) }
 
-pub stride-most : (F n : ℕ) → stride F n ≤ 2 ^ F
-stride-most F n = pow-mono (sub-le F n)
+pub call-opens : (F : ℕ) (op : Operation) (n q : ℕ) → callRefusal F op n q ≡ 0 → Open F n q × (ownRefusal F op n q ≡ 0)
+unfolding callRefusal
+call-opens F op n q e = let f = first-kept (gate F n q) (ownRefusal F op n q) e in (opens F n q (f .0), f .1)
+
+pub choice-opens : (F upper lower n q : ℕ) → choiceRefusal F upper lower n q ≡ 0 → (areLimits upper lower ≡ true) × Open F n q
+unfolding choiceRefusal
+choice-opens F upper lower n q e = let f = rule-kept (areLimits upper lower) 3 (gate F n q) e in (f .0, opens F n q (f .1))
 
 -- ---- the step s times 2^n is the whole, and a double starts above level 0
+
+pub stride-most : (F n : ℕ) → stride F n ≤ 2 ^ F
+stride-most F n = pow-mono (sub-le F n)
 
 pub stride-whole : (F n q : ℕ) → isDrawing F n q ≡ true → stride F n * 2 ^ n ≡ 2 ^ F
 stride-whole F n q e =

@@ -1,15 +1,9 @@
--- The coordinates of a drawing, and the registers of each.
+-- The coordinates of a drawing. What holds of a coordinate, its registers or its control points are functions of it.
 use mathlib.Core.Bool.{Bool, _&&_}
-use Rattle.coordinate.specs.declared.Registers.{Registers}
-use Rattle.engine.specs.declared.Drawing.{Drawing}
 
 pub data Coordinate : Type 0 where
   in-x : Coordinate
   in-y : Coordinate
-
-abbrev pub of : Coordinate → Drawing → Registers
-of in-x d = d .x
-of in-y d = d .y
 
 -- what is given for each
 abbrev pub pick : {A : Type 0} → A → A → Coordinate → A

@@ -2,7 +2,7 @@
 use mathlib.Core.Path.{_≡_, refl, ap₂}
 use mathlib.Core.Bool.{Bool, true, _&&_}
 use Rattle.numbers.proofs.Tests.{and-true}
-use Rattle.engine.specs.Coordinates.{Coordinate, in-x, in-y, pick, every}
+use Rattle.operations.specs.Coordinates.{Coordinate, in-x, in-y, pick, every}
 
 pub every-true : (holds : Coordinate → Bool) → every holds ≡ true → (c : Coordinate) → holds c ≡ true
 unfolding every
