@@ -22,7 +22,7 @@ use Rattle.engine.specs.Choice.{Said, says, chosen, refusedBy, choice}
 
 -- ---- by the number of a refusal
 
-moved-refusal : (k : ℕ) (old new : Drawing) → moved k old new .refusal ≡ k
+pub moved-refusal : (k : ℕ) (old new : Drawing) → moved k old new .refusal ≡ k
 moved-refusal k old new = number-answered (refused old) (record { refusal = 0; drawing = new }) (λ (m : Moved). m .refusal) (λ k. refl) refl k
 
 moved-refused : (k : ℕ) (old new : Drawing) → (moved k old new .refusal ≡ 0 → ⊥) → moved k old new .drawing ≡ old
@@ -98,7 +98,7 @@ standard-among : (F n q : ℕ) → Among (choiceRefusal F standardUpper standard
 unfolding choiceRefusal gate areLimits
 standard-among F n q = line-among (isDrawing F n q) (among tt) (line-among (ltb q (2 ^ F)) (among tt) (among tt))
 
-said-refusal : (F upper lower : ℕ) (d : Drawing) → choice F upper lower d .refusal ≡ choiceRefusal F upper lower (d .level) (d .q)
+pub said-refusal : (F upper lower : ℕ) (d : Drawing) → choice F upper lower d .refusal ≡ choiceRefusal F upper lower (d .level) (d .q)
 unfolding choice
 said-refusal F upper lower d = number-answered refusedBy (says (chosen F upper lower d)) (λ (s : Said). s .refusal) (λ k. refl) refl _
 

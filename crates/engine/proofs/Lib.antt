@@ -3,6 +3,7 @@ pub mod Fitting
 pub mod Answers
 pub mod Accepted
 pub mod Demand1
+pub mod Order
 pub mod Said
 pub mod Ends
 pub mod Cases

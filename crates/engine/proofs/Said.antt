@@ -1,10 +1,21 @@
--- What `said` gives of an answer determines the answer.
+-- What `said` gives of an answer: 0, 1 and 2 are halve, double and step, and it determines the answer.
 use mathlib.Core.Path.{_≡_, refl, sym, ap, _∙_}
 use mathlib.Core.Option.{Option, none, some}
 use Prim.Native.Nat.{ℕ, zero, suc}
+use Rattle.coordinate.specs.Registers.{halve, double, step}
 use Rattle.engine.specs.declared.Next.{Next}
 use Rattle.engine.specs.declared.Next.the-variants.{Halve, Double, Step, Refused}
-use Rattle.engine.specs.Choice.{Said, said}
+use Rattle.engine.specs.Choice.{Said, says, said}
+
+abbrev coded : ℕ → Said
+coded n = record { refusal = 0; operation = some n }
+
+-- the operation that the rules name, and the one that is answered
+pub rules-name : (says halve ≡ coded 0) × (says double ≡ coded 1) × (says step ≡ coded 2)
+rules-name = (refl, refl, refl)
+
+pub answers-name : (said Halve ≡ coded 0) × (said Double ≡ coded 1) × (said Step ≡ coded 2)
+answers-name = (refl, refl, refl)
 
 abbrev meant : ℕ → Option ℕ → Next
 meant k none = Refused k

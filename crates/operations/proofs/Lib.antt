@@ -4,3 +4,4 @@ pub mod Gates
 pub mod Stays
 pub mod Choice
 pub mod Order
+pub mod Cases

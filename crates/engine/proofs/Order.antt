@@ -1,0 +1,42 @@
+-- The numbers that the entries answer are those of the tables, whose order is in operations/proofs/Order: of an operation the refusal by level and q
+-- first, and 10 by a new register last.
+use mathlib.Core.Path.{_≡_, ap, _∙_}
+use Prim.Native.Nat.{ℕ}
+use Rattle.rules.specs.Refusals.{firstOf}
+use Rattle.rules.proofs.Refusals.{first-on, first-stop, answers}
+use Rattle.coordinate.specs.declared.Control.{Control}
+use Rattle.coordinate.specs.Course.{cubic}
+use Rattle.coordinate.specs.Registers.{Operation}
+use Rattle.operations.specs.Coordinates.{Coordinate}
+use Rattle.operations.specs.Refusals.{startRefusal, callRefusal, registersRefusal}
+use Rattle.operations.specs.Lawful.{AllFit}
+use Rattle.operations.proofs.Order.{registers-refuse-10, registers-accepted}
+use Rattle.engine.specs.declared.Drawing.{Drawing}
+use Rattle.engine.specs.declared.Moved.{Moved}
+use Rattle.engine.specs.Drawing.{of, turned, refused, called}
+use Rattle.engine.specs.Start.{nothingDrawn, firstDrawing, started}
+use Rattle.engine.proofs.Demand1.{moved-refusal}
+
+pub start-number : (F : ℕ) (p : Coordinate → Control) (n : ℕ) → started F p n .refusal ≡ startRefusal F p n
+unfolding started
+start-number F p n = moved-refusal (startRefusal F p n) nothingDrawn (firstDrawing (λ c. cubic (p c)) n)
+
+module _ (F : ℕ) (op : Operation) (d : Drawing) where
+  call-number : called F op d .refusal ≡ firstOf (callRefusal F op (d .level) (d .q)) (registersRefusal (λ c. of c (turned F op d)))
+  unfolding called
+  call-number = moved-refusal (firstOf (callRefusal F op (d .level) (d .q)) (registersRefusal (λ c. of c (turned F op d)))) d (turned F op d)
+
+  -- whatever its registers are
+  pub level-and-q-first : (callRefusal F op (d .level) (d .q) ≡ 0 → ⊥) → called F op d .refusal ≡ callRefusal F op (d .level) (d .q)
+  level-and-q-first h = call-number ∙ first-stop (callRefusal F op (d .level) (d .q)) (registersRefusal (λ c. of c (turned F op d))) h
+
+  module _ (let-through : callRefusal F op (d .level) (d .q) ≡ 0) where
+    by-registers : firstOf (callRefusal F op (d .level) (d .q)) (registersRefusal (λ c. of c (turned F op d))) ≡ registersRefusal (λ c. of c (turned F op d))
+    by-registers = first-on (callRefusal F op (d .level) (d .q)) (registersRefusal (λ c. of c (turned F op d))) let-through
+
+    pub registers-last : (((c : Coordinate) → AllFit (of c (turned F op d))) → ⊥) → called F op d .refusal ≡ 10
+    registers-last h = call-number ∙ by-registers ∙ registers-refuse-10 (λ c. of c (turned F op d)) h
+
+    pub turns : ((c : Coordinate) → AllFit (of c (turned F op d))) → called F op d ≡ record { refusal = 0; drawing = turned F op d }
+    unfolding called
+    turns h = answers (refused d) _ (by-registers ∙ registers-accepted (λ c. of c (turned F op d)) h)

@@ -1,0 +1,170 @@
+-- Registers, levels and positions that a caller may make up, at the values where the rules draw their limits: what is chosen, and what is refused.
+-- Two tables, a statement over each.
+use mathlib.Core.Path.{_≡_}
+use mathlib.Core.Bool.{Bool}
+use mathlib.Core.List.{List, [], _∷_}
+use Prim.Native.Nat.{ℕ}
+use lib.Dec.{eqb, eqb→eq}
+use lib.IntN.{ℤ, pos, negsuc}
+use Rattle.numbers.specs.Tables.{All}
+use Rattle.numbers.proofs.Tables.{tested}
+use Rattle.rules.specs.Refusals.{firstOf}
+use Rattle.rules.specs.Rules.{isCoordinate, areNeighbours, isLevel, areLimits}
+use Rattle.coordinate.specs.declared.Registers.{Registers}
+use Rattle.coordinate.specs.declared.Control.{Control}
+use Rattle.coordinate.specs.Points.{areCoordinates, areNear}
+use Rattle.coordinate.specs.Registers.{Operation, halve, double, step, turn, areRegisters}
+use Rattle.coordinate.specs.Increment.{increment, doubledIncrement}
+use Rattle.operations.specs.Coordinates.{Coordinate, pick, every}
+use Rattle.operations.specs.Position.{isDrawing, isAligned, newLevel, newPosition}
+use Rattle.operations.specs.Refusals.{startRefusal, gate, callRefusal, registersRefusal, choiceRefusal}
+use Rattle.operations.specs.Choice.{wantsHalve, wantsDouble, choose}
+
+abbrev registers : ℤ → ℤ → ℤ → ℤ → Registers
+registers a b c d = record { a = a; b = b; c = c; d = d }
+
+abbrev zeros : Registers
+zeros = registers (pos 0) (pos 0) (pos 0) (pos 0)
+
+-- ---- choosing at F = 11
+
+abbrev code : Operation → ℕ
+code halve = 0
+code double = 1
+code step = 2
+
+-- x has b and c, y has c; the other registers are 0
+pub record Choosing : Type 0 where
+  pub upper : ℕ
+  pub lower : ℕ
+  pub level : ℕ
+  pub q : ℕ
+  pub b : ℤ
+  pub c : ℤ
+  pub c-of-y : ℤ
+  pub operation : Operation
+
+abbrev choosing : ℕ → ℕ → ℕ → ℕ → ℤ → ℤ → ℤ → Operation → Choosing
+choosing upper lower n q b c y op = record { upper = upper; lower = lower; level = n; q = q; b = b; c = c; c-of-y = y; operation = op }
+
+abbrev answered : Choosing → Operation
+answered w = choose 11 (w .upper) (w .lower) (w .level) (w .q) (pick (registers (pos 0) (w .b) (w .c) (pos 0)) (registers (pos 0) (pos 0) (w .c-of-y) (pos 0)))
+
+unfoldable pub choices : List Choosing
+choices =
+    -- 1: larger than upper in x or in y, floor first and then magnitude; not where it is equal, and not at level 11
+    choosing 65536 32768 1 0 (pos 0) (pos 131073) (pos 0) step
+    ∷ choosing 65536 32768 1 0 (pos 0) (pos 131074) (pos 0) halve
+    ∷ choosing 65536 32768 1 0 (pos 0) (negsuc 131071) (pos 0) step
+    ∷ choosing 65536 32768 1 0 (pos 0) (negsuc 131072) (pos 0) halve
+    ∷ choosing 65536 32768 1 0 (pos 0) (pos 0) (pos 131074) halve
+    ∷ choosing 65536 32768 10 0 (pos 0) (pos 67109888) (pos 0) halve
+    ∷ choosing 65536 32768 11 0 (pos 0) (pos 134219776) (pos 0) step
+    -- 2: both smaller than lower; not where one is equal, and never under lower = 0
+    ∷ choosing 65536 32768 1 0 (pos 0) (pos 65535) (pos 65535) double
+    ∷ choosing 65536 32768 1 0 (pos 0) (pos 65536) (pos 0) step
+    ∷ choosing 65536 32768 1 0 (pos 0) (pos 0) (pos 65536) step
+    ∷ choosing 65536 0 1 0 (pos 0) (pos 0) (pos 0) step
+    ∷ choosing 1 1 1 0 (pos 0) (pos 0) (pos 0) double
+    -- level above 0
+    ∷ choosing 65536 32768 0 0 (pos 0) (pos 0) (pos 0) step
+    -- q a multiple of 2s
+    ∷ choosing 65536 32768 2 1024 (pos 0) (pos 0) (pos 0) double
+    ∷ choosing 65536 32768 2 512 (pos 0) (pos 0) (pos 0) step
+    -- the doubled increment equal to upper, larger, and by its floors
+    ∷ choosing 65536 32768 1 0 (pos 4) (pos 65535) (pos 0) double
+    ∷ choosing 65536 32768 1 0 (pos 8) (pos 65535) (pos 0) step
+    ∷ choosing 65536 65536 1 0 (negsuc 0) (pos 65537) (pos 0) double
+    ∷ choosing 32768 32768 1 0 (pos 0) (pos 0) (pos 32768) double
+    ∷ choosing 32768 32768 1 0 (pos 0) (pos 0) (pos 32769) step
+    ∷ []
+
+abbrev pub Chooses : Choosing → Type 0
+Chooses w = code (answered w) ≡ code (w .operation)
+
+abbrev chosen-so : Choosing → Bool
+chosen-so w = eqb (code (answered w)) (code (w .operation))
+
+pub chosen-as-listed : All Chooses choices
+unfolding choices choose wantsHalve wantsDouble increment doubledIncrement isAligned turn
+chosen-as-listed = tested Chooses chosen-so (λ w t. eqb→eq (code (answered w)) (code (w .operation)) t) choices tt
+
+-- ---- levels, positions and refusals at F = 11
+
+-- the number answered, and the one that the document gives
+pub record Answer : Type 0 where
+  pub answered : ℕ
+  pub number : ℕ
+
+abbrev answer : ℕ → ℕ → Answer
+answer answered number = record { answered = answered; number = number }
+
+-- an operation at level n and position q, on the registers of x and y
+abbrev of : Operation → ℕ → ℕ → Registers → Registers → ℕ
+of op n q x y = firstOf (callRefusal 11 op n q) (registersRefusal (λ c. turn op n (pick x y c)))
+
+-- a start, its points of y given
+abbrev line : ℤ → ℤ → ℤ → ℤ → Control
+line p q r s = record { p0 = p; p1 = q; p2 = r; p3 = s }
+
+abbrev start : Control → ℕ → ℕ
+start y n = startRefusal 11 (pick (line (pos 0) (pos 0) (pos 0) (pos 0)) y) n
+
+abbrev outside : Registers
+outside = registers (pos 2147483647) (negsuc 2147483647) (pos 0) (pos 0)
+
+unfoldable pub numbers : List Answer
+numbers =
+    -- halve leads to level n + 1, double to n − 1, and a step adds 2^(11−n) to q
+    answer (newLevel halve 5) 6
+    ∷ answer (newLevel double 5) 4
+    ∷ answer (newLevel step 5) 5
+    ∷ answer (newPosition 11 halve 5 64) 64
+    ∷ answer (newPosition 11 double 5 128) 128
+    ∷ answer (newPosition 11 step 5 64) 128
+    -- 10 by level and q, before 5 and 6
+    ∷ answer (of step 12 0 zeros zeros) 10
+    ∷ answer (of halve 12 0 zeros zeros) 10
+    ∷ answer (of step 12 2048 zeros zeros) 10
+    ∷ answer (of step 0 4096 zeros zeros) 10
+    ∷ answer (of step 11 2049 zeros zeros) 10
+    ∷ answer (of step 0 1 zeros zeros) 10
+    -- 5, before 6 and 7
+    ∷ answer (of step 0 2048 zeros zeros) 5
+    ∷ answer (of halve 11 2048 zeros zeros) 5
+    ∷ answer (of double 0 2048 zeros zeros) 5
+    ∷ answer (of step 11 2047 zeros zeros) 0
+    -- 6, before 10 by registers; 7, 8
+    ∷ answer (of halve 11 0 outside zeros) 6
+    ∷ answer (of halve 10 0 zeros zeros) 0
+    ∷ answer (of double 0 0 zeros zeros) 7
+    ∷ answer (of double 1 1024 zeros zeros) 8
+    -- 10 by a new register of x or of y; the least and the largest number of 32 bits fit
+    ∷ answer (of halve 0 0 outside zeros) 10
+    ∷ answer (of step 0 0 (registers (pos 0) (pos 0) (negsuc 0) (negsuc 2147483646)) zeros) 0
+    ∷ answer (of step 0 0 (registers (pos 0) (pos 0) (negsuc 0) (negsuc 2147483647)) zeros) 10
+    ∷ answer (of step 0 0 zeros (registers (pos 0) (pos 0) (pos 1) (pos 2147483646))) 0
+    ∷ answer (of step 0 0 zeros (registers (pos 0) (pos 0) (pos 1) (pos 2147483647))) 10
+    -- a start: 1, then 2, then 3
+    ∷ answer (start (line (pos 16384) (pos 0) (pos 0) (pos 0)) 12) 1
+    ∷ answer (start (line (pos 683) (pos 0) (pos 0) (pos 0)) 12) 2
+    ∷ answer (start (line (pos 682) (pos 0) (pos 0) (pos 0)) 12) 3
+    ∷ answer (start (line (pos 682) (pos 0) (pos 0) (pos 0)) 11) 0
+    -- choosing: 4, then 10, then 5
+    ∷ answer (choiceRefusal 11 0 0 12 2048) 4
+    ∷ answer (choiceRefusal 11 65537 0 0 2048) 4
+    ∷ answer (choiceRefusal 11 65536 32768 12 2048) 10
+    ∷ answer (choiceRefusal 11 65536 32768 0 2048) 5
+    ∷ answer (choiceRefusal 11 65536 32768 0 0) 0
+    ∷ []
+
+abbrev pub Answers : Answer → Type 0
+Answers w = w .answered ≡ w .number
+
+abbrev answered-so : Answer → Bool
+answered-so w = eqb (w .answered) (w .number)
+
+pub answered-as-listed : All Answers numbers
+unfolding numbers startRefusal every areCoordinates areNear isCoordinate areNeighbours isLevel areLimits callRefusal gate isDrawing isAligned
+    registersRefusal turn areRegisters choiceRefusal
+answered-as-listed = tested Answers answered-so (λ w t. eqb→eq (w .answered) (w .number) t) numbers tt
