@@ -8,6 +8,7 @@ random drawings are held to the exact curve.
 import sys
 
 import above  # noqa: F401
+from boundaries import CASES as BOUNDARIES
 from document_cases import CASES, LISTING, SHEET, SHEET_NUMBERS
 from exact_curve import check_distance, check_start
 from makers import LONGEST, number_list, on_x, point, sheet, straight
@@ -58,6 +59,11 @@ def check_document(tally):
     tally.equal("the sheet of A", SHEET, ONE)
     tally.equal("the number list of A", SHEET_NUMBERS, ONE_LIST)
     tally.equal("the listing of A", listing(SHEET), LISTING)
+
+
+def check_boundaries(tally):
+    for what, name, words, begun in BOUNDARIES:
+        tally.holds(what, answered(request(name, words))[0].startswith(begun))
 
 
 # Drawings
@@ -208,9 +214,10 @@ def check_spoilt(tally):
 
 def main():
     tally = Tally()
-    for check in (check_numbers, check_document, check_choosing, check_edges,
-                  check_start, check_paths, check_path_order, check_reading,
-                  check_writing, check_spoilt, check_distance):
+    for check in (check_numbers, check_document, check_boundaries,
+                  check_choosing, check_edges, check_start, check_paths,
+                  check_path_order, check_reading, check_writing,
+                  check_spoilt, check_distance):
         check(tally)
     sys.exit(tally.end())
 

@@ -12,6 +12,7 @@ from collections import Counter
 
 import kept
 from above import ROOT
+from boundaries import CASES as BOUNDARIES
 from document_cases import CASES, LISTING, SHEET
 from listing_cases import gate_sheets
 from model.listing import listing
@@ -30,13 +31,22 @@ def joined(lines):
     return "".join(line + "\n" for line in lines).encode()
 
 
-# The probe: the document's cases, and a few requests of each outcome
+# The probe: the document's cases, the boundaries, and a few requests of each
+# outcome
 
 def document_requests():
     requests = []
     for letter, name, words, line in CASES:
         requests.append(request(name, words))
         assert answered(requests[-1])[0] == line, letter
+    return requests
+
+
+def boundary_requests():
+    requests = []
+    for what, name, words, begun in BOUNDARIES:
+        requests.append(request(name, words))
+        assert answered(requests[-1])[0].startswith(begun), what
     return requests
 
 
@@ -59,7 +69,8 @@ def picked_requests():
 
 
 def probe_files():
-    requests = document_requests() + limit_requests() + picked_requests()
+    requests = (document_requests() + boundary_requests() + limit_requests()
+                + picked_requests())
     cut_off = requests[0][:-1]
     requests.append(cut_off)
     answers = [answered(one) for one in requests]

@@ -1,0 +1,92 @@
+"""Requests at the values where document 01's rules draw their limits.
+
+CASES has (what is tried, name of the request, argument words, how the answer
+line begins), reckoned by hand. They are the rows of the two tables in
+crates/operations/proofs/Cases.antt, as far as an entry answers them, and the
+half of an odd a; most are drawings that a caller made up.
+"""
+from document_cases import LIMITS, drawing
+from model.constants import LEAST, MOST
+from model.points import flat
+from probe_protocol import line
+
+HALVE, DOUBLE, STEP = 0, 1, 2
+
+
+def chosen(what, operation, level, q, b, c, c_of_y, limits=LIMITS):
+    """x has the registers b and c, y has c, the others are 0."""
+    words = drawing(level, q, 0, b, c, 0, 0, 0, c_of_y, 0)
+    return what, "next", [*words, *limits], line([0, operation])
+
+
+def refused_choice(what, refusal, level, q, limits=LIMITS):
+    return what, "next", [*drawing(level, q), *limits], line([refusal, 0])
+
+
+def operated(what, name, refusal, level, q, *registers):
+    return what, name, drawing(level, q, *registers), line([refusal, ""])
+
+
+def started(what, refusal, ys, level):
+    points = flat([0, y] for y in ys)
+    return what, "start", [*points, level], line([refusal, ""])
+
+
+AT_REST = [0, 0, 0, 0]
+OUTSIDE = [MOST, LEAST, 0, 0]
+
+CASES = [
+    chosen("1: equal to upper", STEP, 1, 0, 0, 131_073, 0),
+    chosen("1: larger in x", HALVE, 1, 0, 0, 131_074, 0),
+    chosen("1: equal below 0", STEP, 1, 0, 0, -131_072, 0),
+    chosen("1: larger by the floor", HALVE, 1, 0, 0, -131_073, 0),
+    chosen("1: larger in y", HALVE, 1, 0, 0, 0, 131_074),
+    chosen("1: level 10", HALVE, 10, 0, 0, 67_109_888, 0),
+    chosen("1: level 11", STEP, 11, 0, 0, 134_219_776, 0),
+    chosen("2: both smaller than lower", DOUBLE, 1, 0, 0, 65_535, 65_535),
+    chosen("2: x equal to lower", STEP, 1, 0, 0, 65_536, 0),
+    chosen("2: y equal to lower", STEP, 1, 0, 0, 0, 65_536),
+    chosen("2: lower 0", STEP, 1, 0, 0, 0, 0, [65_536, 0]),
+    chosen("2: limits 1 and 1", DOUBLE, 1, 0, 0, 0, 0, [1, 1]),
+    chosen("2: level 0", STEP, 0, 0, 0, 0, 0),
+    chosen("2: a multiple of 2s", DOUBLE, 2, 1_024, 0, 0, 0),
+    chosen("2: no multiple of 2s", STEP, 2, 512, 0, 0, 0),
+    chosen("2: doubled, equal to upper", DOUBLE, 1, 0, 4, 65_535, 0),
+    chosen("2: doubled, larger", STEP, 1, 0, 8, 65_535, 0),
+    chosen("2: doubled, by its floors", DOUBLE, 1, 0, -1, 65_537, 0,
+           [65_536, 65_536]),
+    chosen("2: doubled y equal to upper", DOUBLE, 1, 0, 0, 0, 32_768,
+           [32_768, 32_768]),
+    chosen("2: doubled y larger", STEP, 1, 0, 0, 0, 32_769,
+           [32_768, 32_768]),
+    operated("10: level 12", "step", 10, 12, 0),
+    operated("10 before 6", "halve", 10, 12, 0),
+    operated("10 before 5", "step", 10, 12, 2_048),
+    operated("10: twice the end", "step", 10, 0, 4_096),
+    operated("10: past the end", "step", 10, 11, 2_049),
+    operated("10: no multiple of s", "step", 10, 0, 1),
+    operated("5", "step", 5, 0, 2_048),
+    operated("5 before 6", "halve", 5, 11, 2_048),
+    operated("5 before 7", "double", 5, 0, 2_048),
+    operated("the last position before the end", "step", 0, 11, 2_047),
+    operated("6 before 10 by registers", "halve", 6, 11, 0, *OUTSIDE),
+    operated("level 10 is halved", "halve", 0, 10, 0),
+    operated("7", "double", 7, 0, 0),
+    operated("8", "double", 8, 1, 1_024),
+    operated("10 by a register", "halve", 10, 0, 0, *OUTSIDE),
+    operated("the least register", "step", 0, 0, 0, 0, 0, -1, LEAST + 1),
+    operated("10 below it", "step", 10, 0, 0, 0, 0, -1, LEAST),
+    operated("the largest register", "step", 0, 0, 0,
+             *AT_REST, 0, 0, 1, MOST - 1),
+    operated("10 above it", "step", 10, 0, 0, *AT_REST, 0, 0, 1, MOST),
+    ("half of an odd a", "halve", drawing(0, 0, -3, 0, 0, 0),
+     line([0, *drawing(1, 0, -2, 2, 0, 0)])),
+    started("1 before 2 and 3", 1, [16_384, 0, 0, 0], 12),
+    started("2 before 3", 2, [683, 0, 0, 0], 12),
+    started("3", 3, [682, 0, 0, 0], 12),
+    started("none", 0, [682, 0, 0, 0], 11),
+    refused_choice("4 before 10 and 5", 4, 12, 2_048, [0, 0]),
+    refused_choice("4 before 5", 4, 0, 2_048, [65_537, 0]),
+    refused_choice("choosing: 10 before 5", 10, 12, 2_048),
+    refused_choice("choosing: 5", 5, 0, 2_048),
+]
