@@ -16,6 +16,7 @@ use Rattle.engine.specs.Drawing.{turned, moved, called, of}
 use Rattle.coordinate.proofs.Turns.{start-on}
 use Rattle.coordinate.specs.Course.{Course}
 use Rattle.engine.specs.Start.{firstDrawing}
+use Rattle.engine.proofs.Each.{first-of}
 use Rattle.distance.specs.Calls.{after, gain, travelled, ruled}
 use Rattle.coordinate.proofs.Near.{At, scale}
 use Rattle.coordinate.proofs.Stands.{Bounded}
@@ -27,11 +28,7 @@ pub first-kept : (F : ℕ) (p : Coordinate → Course) (n : ℕ) → F ≤ 16 �
 first-kept F p n h l =
     let levels : n + (F - n) ≡ F = add-sub-of-le l in
     let G : 2 ^ F ≡ 2 ^ n * 2 ^ (F - n) = ap (λ (k : ℕ). 2 ^ k) (sym levels) ∙ pow-add 2 n (F - n) in
-    record { below = F - n; levels = levels; on = starts G }
-  where
-    starts : 2 ^ F ≡ 2 ^ n * 2 ^ (F - n) → (c : Coordinate) → At F (p c .curve) n (F - n) 0 (of c (firstDrawing p n))
-    starts G in-x = start-on (2 ^ (16 - F)) (2 ^ F) (p in-x .curve) n (F - n) (scale F h) G
-    starts G in-y = start-on (2 ^ (16 - F)) (2 ^ F) (p in-y .curve) n (F - n) (scale F h) G
+    record { below = F - n; levels = levels; on = λ c. rw (first-of p n c) (start-on (2 ^ (16 - F)) (2 ^ F) (p c .curve) n (F - n) (scale F h) G) }
 
 -- ---- one call and lists of calls
 

@@ -24,6 +24,7 @@ use Rattle.operations.proofs.Every.{true-every}
 use Rattle.operations.proofs.Gates.{is-drawing}
 use Rattle.engine.specs.declared.Drawing.{Drawing}
 use Rattle.engine.specs.Drawing.{of, turned, moved, called}
+use Rattle.engine.proofs.Each.{turned-of}
 use Rattle.distance.specs.Calls.{ruled}
 
 -- `below` finer levels are left
@@ -87,9 +88,7 @@ double-at F f (suc n) j q m r h e o =
     (double-on (2 ^ (16 - F)) (2 ^ F) f n j q m r (e ∙ ap (λ (t : ℕ). m * t) (sym (pow-succ' 2 j))) o)
 
 at-turned : (F : ℕ) (op : Operation) (d : Drawing) (g : Curve) (n j q : ℕ) (c : Coordinate) → At F g n j q (turn op (d .level) (of c d)) → At F g n j q (of c (turned F op d))
-unfolding turned
-at-turned F op d g n j q in-x h = h
-at-turned F op d g n j q in-y h = h
+at-turned F op d g n j q c = subst (At F g n j q) (sym (turned-of F op d c))
 
 pub kept-turned : (F : ℕ) (f : Coordinate → Curve) (d : Drawing) (op : Operation) → Kept F f d → ruled F op (d .level) (d .q) ≡ 0 → Kept F f (turned F op d)
 unfolding turned isAligned
