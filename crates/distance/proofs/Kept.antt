@@ -48,7 +48,7 @@ kept-inside F f d k =
     is-drawing F (d .level) (d .q) (record { level = omega (arith, k .levels); position = k .on in-x .within; whole = whole })
 
 -- the document's numbers are those of the operations' own refusals
-ruled-own : (F : ℕ) (op : Operation) (n q : ℕ) → ruled F op n q ≡ unless (ltb q (2 ^ F)) 5 (ownRefusal F op n q)
+pub ruled-own : (F : ℕ) (op : Operation) (n q : ℕ) → ruled F op n q ≡ unless (ltb q (2 ^ F)) 5 (ownRefusal F op n q)
 unfolding ruled isAligned
 ruled-own F halve n q = refl
 ruled-own F double n q = refl
