@@ -5,7 +5,7 @@ use Prim.Native.Nat.{ℕ, _^_}
 use lib.Dec.{ltb}
 use lib.IntN.{pos}
 use Rattle.rules.specs.Refusals.{Among, firstOf}
-use Rattle.rules.specs.Rules.{reach, areLimits, isLevel, standardUpper, standardLower}
+use Rattle.rules.specs.Rules.{reach, areLimits, isLevel}
 use Rattle.rules.proofs.Refusals.{line-among, among, first-among, number-answered, refused-answers}
 use Rattle.coordinate.specs.declared.Control.{Control}
 use Rattle.coordinate.specs.Points.{areCoordinates, areNear}
@@ -94,7 +94,7 @@ choice-among F upper lower n q =
     line-among (areLimits upper lower) (among tt)
     (line-among (isDrawing F n q) (among tt) (line-among (ltb q (2 ^ F)) (among tt) (among tt)))
 
-standard-among : (F n q : ℕ) → Among (choiceRefusal F standardUpper standardLower n q) standardTable
+standard-among : (F n q : ℕ) → Among (choiceRefusal F 65536 32768 n q) standardTable
 unfolding choiceRefusal gate areLimits
 standard-among F n q = line-among (isDrawing F n q) (among tt) (line-among (ltb q (2 ^ F)) (among tt) (among tt))
 
@@ -105,7 +105,8 @@ said-refusal F upper lower d = number-answered refusedBy (says (chosen F upper l
 pub choice-refuses-as-tabled : (F upper lower : ℕ) (d : Drawing) → Among (choice F upper lower d .refusal) choiceTable
 choice-refuses-as-tabled F upper lower d = rw said-refusal (choice-among F upper lower (d .level) (d .q))
 
-pub standard-refuses-as-tabled : (F : ℕ) (d : Drawing) → Among (choice F standardUpper standardLower d .refusal) standardTable
+-- under the standard limits, 65,536 and 32,768
+pub standard-refuses-as-tabled : (F : ℕ) (d : Drawing) → Among (choice F 65536 32768 d .refusal) standardTable
 standard-refuses-as-tabled F d = rw said-refusal (standard-among F (d .level) (d .q))
 
 pub refused-choice-names-nothing : (F upper lower : ℕ) (d : Drawing) → (choice F upper lower d .refusal ≡ 0 → ⊥) → choice F upper lower d .operation ≡ none
