@@ -7,4 +7,6 @@ pub mod Turns
 pub mod Joined
 pub mod Walk
 pub mod Spans
+pub mod Steps
+pub mod Near
 pub mod Listed
