@@ -1,4 +1,5 @@
 -- Laws of paths and their lists.
+pub mod Points
 pub mod Accepted
 pub mod Refusals
 pub mod Demand1

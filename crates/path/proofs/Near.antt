@@ -1,6 +1,7 @@
 -- Every entry of an accepted path is near the exact curve at its position: less than half a unit more than demand 3 allows the registers.
 use mathlib.Core.Path.{_≡_, sym, ap, subst}
 use Prim.Native.Nat.{ℕ, _+_, _*_, _^_}
+use Rattle.coordinate.specs.declared.Control.{Control}
 use Rattle.coordinate.specs.Curve.{curve}
 use Rattle.coordinate.specs.Shown.{pixel}
 use Rattle.coordinate.proofs.Half.{shown-near}
@@ -8,9 +9,10 @@ use Rattle.engine.specs.Coordinates.{Coordinate, in-x, in-y, pick, of}
 use Rattle.engine.proofs.Gates.{inside}
 use Rattle.distance.specs.Calls.{after}
 use Rattle.entries.specs.declared.Entry.{Entry}
-use Rattle.path.specs.Path.{Path, control, courses}
+use Rattle.path.specs.Path.{Path, courses}
 use Rattle.path.specs.Entries.{entry}
-use Rattle.path.specs.Listed.{begins, Placed, Within, Near, segmentPoints, NearInNumbers}
+use Rattle.path.specs.Listed.{begins, Placed, Within, Near, NearInNumbers}
+use Rattle.path.proofs.Points.{segment-uses}
 
 pub placed-near : (F : ℕ) (p : Path) (e : Entry) → Placed F p e → Near F p e
 unfolding entry
@@ -32,10 +34,12 @@ placed-near F p e l =
     number in-y = ap (λ (f : Entry). f .y) (l .shown)
 
 pub near-in-numbers : (p : Path) (e : Entry) → Near 11 p e → NearInNumbers p e
-unfolding control
 near-in-numbers p e n =
-    record { k = n .k; q = n .q; segment = n .segment; inside = n .inside; position = n .position; near = each }
-  where
-    each : (c : Coordinate) → Within 11 38912 (curve (segmentPoints (p .points) (pick 0 1 c) (n .k))) (n .q) (pick (e .x) (e .y) c)
-    each in-x = n .near in-x
-    each in-y = n .near in-y
+    record {
+      k = n .k;
+      q = n .q;
+      segment = n .segment;
+      inside = n .inside;
+      position = n .position;
+      near = λ c. subst (λ (g : Control). Within 11 38912 (curve g) (n .q) (pick (e .x) (e .y) c)) (segment-uses (p .points) (n .k) c) (n .near c);
+    }
