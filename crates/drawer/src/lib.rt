@@ -5,7 +5,7 @@ ghost use mathlib.Core.Path.{_≡_};
 ghost use Prim.Native.Nat.{_+_, _*_, _^_, _≤_, _<_};
 ghost use lib.ListN.{length};
 ghost use lib.Seq.{sets};
-ghost use Rattle.rules.specs.Rules.{finest, standardUpper, standardLower, mostSegments};
+ghost use Rattle.rules.specs.Rules.{finest, mostSegments};
 ghost use Rattle.entries.specs.Entries.{entrySize, numbers, flat};
 ghost use Rattle.path.specs.Path.{path, pathRefusal, first};
 ghost use Rattle.path.specs.Entries.{entry, entries};
@@ -88,10 +88,10 @@ pub fn measure(points: &[i32], segments: u32, level: u32, upper: u32, lower: u32
     }
 }
 
-// The same under the standard limits. Refuses 14, 1, 2, 3, 9.
+// The same under the standard limits, 65,536 and 32,768. Refuses 14, 1, 2, 3, 9.
 pub fn draw_standard(points: &[i32], segments: u32, level: u32, list: &mut [i32]) -> Drawn
-    ensures { λ r. ⌜ r ≡ drawn finest (path (now (points .entry)) segments level standardUpper standardLower) (length (now (list .entry))) ⌝ }
-    ensures { λ _. ⌜ now (list .exit) ≡ written finest (path (now (points .entry)) segments level standardUpper standardLower) (now (list .entry)) ⌝ }
+    ensures { λ r. ⌜ r ≡ drawn finest (path (now (points .entry)) segments level 65536 32768) (length (now (list .entry))) ⌝ }
+    ensures { λ _. ⌜ now (list .exit) ≡ written finest (path (now (points .entry)) segments level 65536 32768) (now (list .entry)) ⌝ }
 {
     draw(
         points,
@@ -103,9 +103,9 @@ pub fn draw_standard(points: &[i32], segments: u32, level: u32, list: &mut [i32]
     )
 }
 
-// The same under the standard limits. Refuses 14, 1, 2, 3.
+// The same under the standard limits, 65,536 and 32,768. Refuses 14, 1, 2, 3.
 pub fn measure_standard(points: &[i32], segments: u32, level: u32) -> Drawn
-    ensures { λ r. ⌜ r ≡ measured finest (path (now (points .entry)) segments level standardUpper standardLower) ⌝ }
+    ensures { λ r. ⌜ r ≡ measured finest (path (now (points .entry)) segments level 65536 32768) ⌝ }
 {
     measure(points, segments, level, STANDARD_UPPER, STANDARD_LOWER)
 }

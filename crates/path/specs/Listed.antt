@@ -8,7 +8,7 @@ use lib.Signed.{_<ℤ_}
 use Rattle.numbers.specs.Tables.{All}
 use Rattle.rules.specs.Rules.{degree}
 use Rattle.coordinate.specs.declared.Control.{Control}
-use Rattle.coordinate.specs.Curve.{Curve, curve, exact}
+use Rattle.coordinate.specs.Curve.{curve, exact}
 use Rattle.coordinate.specs.Registers.{Operation}
 use Rattle.engine.specs.declared.Drawing.{Drawing}
 use Rattle.engine.specs.Coordinates.{Coordinate, in-x, in-y, pick}
@@ -50,18 +50,18 @@ pub record Placed (F : ℕ) (p : Path) (e : Entry) : Type 0 where
   pub shown : e ≡ entry F k (after F calls (begins F p k))
   pub demand : Demand3 F (courses (p .points) k) (after F calls (begins F p k)) (travelled F calls (begins F p k))
 
--- z is less than m 65,536ths of a unit from the exact curve f at t = q / 2^F
-abbrev pub Within : ℕ → ℕ → Curve → ℕ → ℤ → Type 0
-Within F m f q z = natAbs (pos 65536 *ℤ z *ℤ pos (2 ^ (3 * F)) -ℤ pos 65536 *ℤ exact F f q) < m * 2 ^ (3 * F)
+-- z is less than m 65,536ths of a unit from y / 2^(3F)
+abbrev pub Within : ℕ → ℕ → ℤ → ℤ → Type 0
+Within F m y z = natAbs (pos 65536 *ℤ z *ℤ pos (2 ^ (3 * F)) -ℤ pos 65536 *ℤ y) < m * 2 ^ (3 * F)
 
--- an entry stands where its position says: in x and in y it is less than half a unit and 3·2^F 65,536ths from the exact curve at t = q / 2^F of segment k
+-- An entry stands where its position says. A position is 2^F·k + q, at a join of both segments in two ways: in x and in y the entry is less than
+-- half a unit and 3·2^F 65,536ths from the exact curve of segment k at t = q / 2^F.
 pub record Near (F : ℕ) (p : Path) (e : Entry) : Type 0 where
-  pub k : ℕ
-  pub q : ℕ
-  pub segment : k < p .segments
-  pub inside : q ≤ 2 ^ F
-  pub position : e .position ≡ pos (2 ^ F * k + q)
-  pub near : (c : Coordinate) → Within F (32768 + 3 * 2 ^ F) (courses (p .points) k c .curve) q (pick (e .x) (e .y) c)
+  pub at : ℕ
+  pub position : e .position ≡ pos at
+  pub inside : at ≤ 2 ^ F * p .segments
+  pub near : (k q : ℕ) → k < p .segments → q ≤ 2 ^ F → at ≡ 2 ^ F * k + q → (c : Coordinate)
+      → Within F (32768 + 3 * 2 ^ F) (exact F (courses (p .points) k c .curve) q) (pick (e .x) (e .y) c)
 
 pub record Listed (F : ℕ) (p : Path) : Type 0 where
   -- the list starts at the path's first control point, ends at its last, and has control point 3k at each 2^F·k
@@ -91,12 +91,10 @@ segmentPoints points c k =
 
 -- Position is 2,048·k + q; half a unit and 6,144 are 38,912. `exact 11 f q` is A·q³ + B·q²·2^11 + C·q·2^22 + D·2^33.
 pub record NearInNumbers (p : Path) (e : Entry) : Type 0 where
-  pub k : ℕ
-  pub q : ℕ
-  pub segment : k < p .segments
-  pub inside : q ≤ 2048
-  pub position : e .position ≡ pos (2048 * k + q)
-  pub near : (c : Coordinate)
+  pub at : ℕ
+  pub position : e .position ≡ pos at
+  pub inside : at ≤ 2048 * p .segments
+  pub near : (k q : ℕ) → k < p .segments → q ≤ 2048 → at ≡ 2048 * k + q → (c : Coordinate)
       → natAbs (pos 65536 *ℤ pick (e .x) (e .y) c *ℤ pos (2 ^ 33) -ℤ pos 65536 *ℤ exact 11 (curve (segmentPoints (p .points) (pick 0 1 c) k)) q)
       < 38912 * 2 ^ 33
 
