@@ -8,6 +8,7 @@ pub mod Turns
 pub mod Joined
 pub mod Walk
 pub mod Spans
+pub mod Goes
 pub mod Steps
 pub mod Near
 pub mod Listed

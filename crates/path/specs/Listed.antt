@@ -54,8 +54,8 @@ pub record Placed (F : ℕ) (p : Path) (e : Entry) : Type 0 where
 abbrev pub Within : ℕ → ℕ → ℤ → ℤ → Type 0
 Within F m y z = natAbs (pos 65536 *ℤ z *ℤ pos (2 ^ (3 * F)) -ℤ pos 65536 *ℤ y) < m * 2 ^ (3 * F)
 
--- An entry stands where its position says. A position is 2^F·k + q, at a join of both segments in two ways: in x and in y the entry is less than
--- half a unit and 3·2^F 65,536ths from the exact curve of segment k at t = q / 2^F.
+-- An entry stands where its position says: wherever that is 2^F·k + q, at a join for both segments, x and y are less than half a unit and
+-- 3·2^F 65,536ths from the exact curve of segment k at t = q / 2^F.
 pub record Near (F : ℕ) (p : Path) (e : Entry) : Type 0 where
   pub at : ℕ
   pub position : e .position ≡ pos at
