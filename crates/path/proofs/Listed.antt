@@ -90,6 +90,12 @@ module _ (F : ℕ) (p : Path) (good : (k : ℕ) → k < p .segments → Sound F 
       (span-placed F p k s e (omega arith) (start k) (held-first F p k s))
       (following-placed e m (k + 1) (omega arith))
 
+  entries-placed : pathRefusal F p ≡ 0 → 0 < p .segments → All (Placed F p) (entries F p)
+  unfolding entries
+  entries-placed e l =
+      let s = good 0 l in
+      (placed-at F p 0 s e l (start 0) (held-first F p 0 s), following-placed e (p .segments) 0 (omega arith))
+
 pub listed : (F : ℕ) (p : Path) → Fine F → pathRefusal F p ≡ 0 → Listed F p
 unfolding entries lengthOf
 listed F p f e =
@@ -99,8 +105,7 @@ listed F p f e =
     let es = following F p 0 S in
     let whole : entries F p ≡ corner F (p .points) 0 ∷ es = ap (λ (f : Entry). f ∷ es) (start-shown F p good 0 some) in
     let count = following-count F p good S 0 (omega arith) in
-    let placed : All (Placed F p) (entries F p) =
-    (placed-at F p 0 (good 0 some) e some (first (p .points) (p .level) 0) (held-first F p 0 (good 0 some)), following-placed F p good e S 0 (omega arith)) in
+    let placed = entries-placed F p good e some in
     record {
       after = es;
       starts = whole;

@@ -91,5 +91,6 @@ near-in-numbers p e n =
       at = n .at;
       position = n .position;
       inside = n .inside;
-      near = λ k q s h l c. subst (λ (g : Control). Within 11 38912 (exact 11 (curve g) q) (pick (e .x) (e .y) c)) (segment-uses (p .points) k c) (n .near k q s h l c);
+      near = λ k q s h l c.
+          subst (λ (g : Control). Within 11 38912 (exact 11 (curve g) q) (pick (e .x) (e .y) c)) (segment-uses (p .points) k c) (n .near k q s h l c);
     }
