@@ -15,3 +15,4 @@ pub mod Cubic
 pub mod Ends
 pub mod Touching
 pub mod Stands
+pub mod Half

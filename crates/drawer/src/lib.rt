@@ -88,7 +88,7 @@ pub fn measure(points: &[i32], segments: u32, level: u32, upper: u32, lower: u32
     }
 }
 
-// The same under the standard limits. Refuses 14, 1, 2, 3, 9.
+// The same under the standard limits, 65,536 and 32,768. Refuses 14, 1, 2, 3, 9.
 pub fn draw_standard(points: &[i32], segments: u32, level: u32, list: &mut [i32]) -> Drawn
     ensures { λ r. ⌜ r ≡ drawn finest (path (now (points .entry)) segments level standardUpper standardLower) (length (now (list .entry))) ⌝ }
     ensures { λ _. ⌜ now (list .exit) ≡ written finest (path (now (points .entry)) segments level standardUpper standardLower) (now (list .entry)) ⌝ }
@@ -103,7 +103,7 @@ pub fn draw_standard(points: &[i32], segments: u32, level: u32, list: &mut [i32]
     )
 }
 
-// The same under the standard limits. Refuses 14, 1, 2, 3.
+// The same under the standard limits, 65,536 and 32,768. Refuses 14, 1, 2, 3.
 pub fn measure_standard(points: &[i32], segments: u32, level: u32) -> Drawn
     ensures { λ r. ⌜ r ≡ measured finest (path (now (points .entry)) segments level standardUpper standardLower) ⌝ }
 {

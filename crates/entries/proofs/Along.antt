@@ -1,8 +1,27 @@
--- What holds all along two lists holds along them joined, and an entry of either is one of both.
+-- The last entry of a list, its neighbours and its entries, and all three in lists that are joined.
 use mathlib.Core.Path.{_≡_, refl, sym, ap, _∙_, subst}
-use mathlib.Core.List.{List, [], _∷_, _++_, append-assoc}
+use mathlib.Core.List.{List, [], _∷_, _++_, append-assoc, nil≢cons, head-eq-of-cons-eq, tail-eq-of-cons-eq}
 use Rattle.entries.specs.declared.Entry.{Entry}
 use Rattle.entries.specs.Entries.{Among, Linked, lastOf}
+
+-- ---- the last entry, and neighbours
+
+pub last-is-last : (e : Entry) (es : List Entry) (f : Entry) → lastOf e (es ++ f ∷ []) ≡ f
+last-is-last e [] f = refl
+last-is-last e (g ∷ es) f = last-is-last g es f
+
+-- f and g stand beside each other somewhere in e ∷ es
+pub linked-neighbours : (R : Entry → Entry → Type 0) (e : Entry) (es before after : List Entry) (f g : Entry)
+    → e ∷ es ≡ before ++ f ∷ g ∷ after → Linked R e es → R f g
+linked-neighbours R e [] before after f g h l = absurd (nothing before h)
+  where
+    nothing : (before : List Entry) → e ∷ [] ≡ before ++ f ∷ g ∷ after → ⊥
+    nothing [] h = nil≢cons (tail-eq-of-cons-eq h)
+    nothing (x ∷ []) h = nil≢cons (tail-eq-of-cons-eq h)
+    nothing (x ∷ y ∷ before) h = nil≢cons (tail-eq-of-cons-eq h)
+linked-neighbours R e (x ∷ es) [] after f g h l =
+    subst (λ (y : Entry). R y g) (head-eq-of-cons-eq h) (subst (R e) (head-eq-of-cons-eq (tail-eq-of-cons-eq h)) (l .0))
+linked-neighbours R e (x ∷ es) (y ∷ before) after f g h l = linked-neighbours R x es before after f g (tail-eq-of-cons-eq h) (l .1)
 
 pub last-append : (e : Entry) (xs ys : List Entry) → lastOf e (xs ++ ys) ≡ lastOf (lastOf e xs) ys
 last-append e [] ys = refl
@@ -17,14 +36,6 @@ linked-append R e (f ∷ xs) ys h k = (h .0, linked-append R f xs ys (h .1) k)
 
 pub among-head : (e : Entry) (es : List Entry) → Among e (e ∷ es)
 among-head e es = record { before = []; after = es; split = refl }
-
-pub among-before : (e : Entry) (xs ys : List Entry) → Among e xs → Among e (xs ++ ys)
-among-before e xs ys a =
-    record {
-      before = a .before;
-      after = a .after ++ ys;
-      split = ap (λ (l : List Entry). l ++ ys) (a .split) ∙ append-assoc (a .before) (e ∷ a .after) ys;
-    }
 
 pub among-after : (e : Entry) (xs ys : List Entry) → Among e ys → Among e (xs ++ ys)
 among-after e xs ys a =

@@ -1,7 +1,7 @@
--- Lengths: a move is the distance between pixels that touch, cut to a whole number of thousandths, and at most 1,414.
+-- Lengths: what a move adds, that between pixels that touch it is their distance, and that each neighbouring pair adds its move.
 use mathlib.Core.Path.{_≡_, refl, sym, ap, _∙_}
 use mathlib.Core.Bool.{Bool, true, false, cond}
-use mathlib.Core.List.{List, [], _∷_}
+use mathlib.Core.List.{List, [], _∷_, _++_}
 use Prim.Native.Nat.{ℕ, zero, suc, _+_, _*_, _≤_, _<_}
 use native.Mathlib.Nat.{le-of-eq}
 use native.Mathlib.Omega.{arith}
@@ -14,7 +14,27 @@ use Rattle.numbers.proofs.Ring.{#, _:-_, ring}
 use Rattle.numbers.proofs.Size.{size-zero}
 use Rattle.numbers.proofs.Tests.{eq→eqbℤ, ne→eqbℤ}
 use Rattle.entries.specs.declared.Entry.{Entry}
-use Rattle.entries.specs.Length.{moveLength, lengthFrom}
+use Rattle.entries.specs.Length.{moveLength, lengthFrom, lengthOf}
+
+-- ---- a move
+
+-- 0 where the pixel is the same, 1,000 for a move in one coordinate, 1,414 for a move in both
+module _ (e f : Entry) where
+  pub move-nowhere : e .x ≡ f .x → e .y ≡ f .y → moveLength e f ≡ 0
+  unfolding moveLength
+  move-nowhere h k = rw (eq→eqbℤ (e .x) (f .x) h, eq→eqbℤ (e .y) (f .y) k)
+
+  pub move-in-x : (e .x ≡ f .x → ⊥) → e .y ≡ f .y → moveLength e f ≡ 1000
+  unfolding moveLength
+  move-in-x h k = rw (ne→eqbℤ (e .x) (f .x) h, eq→eqbℤ (e .y) (f .y) k)
+
+  pub move-in-y : e .x ≡ f .x → (e .y ≡ f .y → ⊥) → moveLength e f ≡ 1000
+  unfolding moveLength
+  move-in-y h k = rw (eq→eqbℤ (e .x) (f .x) h, ne→eqbℤ (e .y) (f .y) k)
+
+  pub move-in-both : (e .x ≡ f .x → ⊥) → (e .y ≡ f .y → ⊥) → moveLength e f ≡ 1414
+  unfolding moveLength
+  move-in-both h k = rw (ne→eqbℤ (e .x) (f .x) h, ne→eqbℤ (e .y) (f .y) k)
 
 pub move-most : (e f : Entry) → moveLength e f ≤ 1414
 unfolding moveLength
@@ -55,6 +75,25 @@ move-is-distance e f h k =
     squares zero (suc (suc b)) h k = let no : ⊥ = omega arith in absurd no
     squares (suc zero) (suc (suc b)) h k = let no : ⊥ = omega arith in absurd no
     squares (suc (suc a)) b h k = let no : ⊥ = omega arith in absurd no
+
+-- ---- a list
+
+pub length-of-one : (e : Entry) → lengthOf (e ∷ []) ≡ 0
+unfolding lengthOf lengthFrom
+length-of-one e = refl
+
+-- each neighbouring pair adds its move
+length-from-pair : (g : Entry) (before : List Entry) (e f : Entry) (after : List Entry)
+    → lengthFrom g (before ++ e ∷ f ∷ after) ≡ lengthFrom g (before ++ e ∷ []) + (moveLength e f + lengthFrom f after)
+unfolding lengthFrom
+length-from-pair g [] e f after = omega arith
+length-from-pair g (h ∷ before) e f after = omega (arith, length-from-pair h before e f after)
+
+pub length-of-pair : (before : List Entry) (e f : Entry) (after : List Entry)
+    → lengthOf (before ++ e ∷ f ∷ after) ≡ lengthOf (before ++ e ∷ []) + (moveLength e f + lengthOf (f ∷ after))
+unfolding lengthOf lengthFrom
+length-of-pair [] e f after = omega arith
+length-of-pair (g ∷ before) e f after = length-from-pair g before e f after
 
 pub length-most : (e : Entry) (es : List Entry) → lengthFrom e es ≤ 1414 * length es
 unfolding lengthFrom

@@ -8,7 +8,7 @@ use native.Mathlib.Omega.{arith}
 use lib.IntN.{ℤ, pos}
 use lib.ListN.{length, getD, length-append}
 use lib.Seq.{getD-append-add}
-use borrow.Author.Tests.{lt-ltb}
+use borrow.Author.Tests.{lt-ltb, le-ltb}
 use Rattle.entries.specs.declared.Entry.{Entry}
 use Rattle.entries.specs.declared.Found.{Found}
 use Rattle.entries.specs.declared.Found.the-variants.{Here, Outside}
@@ -67,6 +67,13 @@ unfolding entryAt
 entry-there l i h =
     let inside : i < length l / entrySize = omega arith in
     rw (lt-ltb i _ inside)
+
+-- and where it does not
+pub entry-outside : (l : List ℤ) (i : ℕ) → length l < entrySize * i + entrySize → entryAt l i ≡ none
+unfolding entryAt
+entry-outside l i h =
+    let outside : length l / entrySize ≤ i = omega arith in
+    rw (le-ltb i _ outside)
 
 pub entry-of-flat : (es : List Entry) (after : List ℤ) (i : ℕ) (e : Entry) → i < length es → entryAt (flat es ++ after) i ≡ some (getD es i e)
 entry-of-flat es after i e h =

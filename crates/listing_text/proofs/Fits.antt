@@ -3,7 +3,6 @@
 use mathlib.Core.Path.{_≡_, refl, ap}
 use mathlib.Core.List.{List, [], _∷_, _++_, map}
 use Prim.Native.Nat.{ℕ, zero, suc, _+_, _*_, _^_, _≤_, _<_}
-use native.Mathlib.Nat.{mul-le-mul-left}
 use native.Mathlib.Omega.{arith}
 use lib.IntN.{ℤ}
 use lib.ListN.{length, length-append}
@@ -13,7 +12,6 @@ use Rattle.numbers.proofs.Tables.{all-weaker}
 use Rattle.rules.specs.Rules.{finest}
 use Rattle.coordinate.specs.Shown.{pixel}
 use Rattle.operations.specs.Coordinates.{Coordinate, in-x, in-y}
-use Rattle.operations.proofs.Gates.{inside}
 use Rattle.engine.specs.Drawing.{of}
 use Rattle.distance.specs.Calls.{after}
 use Rattle.distance.proofs.Demand3.{fine}
@@ -28,6 +26,7 @@ use Rattle.path.specs.Answer.{measured}
 use Rattle.path.specs.Listed.{begins, Placed}
 use Rattle.path.proofs.Accepted.{accepted-lawful}
 use Rattle.path.proofs.Joined.{alone-accepted}
+use Rattle.path.proofs.Near.{placed-near}
 use Rattle.path.proofs.Listed.{listed}
 use Rattle.listing_text.specs.declared.Place.{Place}
 use Rattle.listing_text.specs.Lines.{
@@ -62,22 +61,18 @@ record Bounded (most : ℕ) (e : Entry) : Type 0 where
   x : Size (e .x) 16385
   y : Size (e .y) 16385
 
--- an entry is the point shown of a drawing of which demand 3 holds
+-- an entry stands at its position, and is the point shown of a drawing of which demand 3 holds
 placed-bounded : (F : ℕ) (p : Path) (e : Entry) → Placed F p e → Bounded (2 ^ F * p .segments) e
 unfolding entry
 placed-bounded F p e l =
     let d = after F (l .calls) (begins F p (l .k)) in
-    let here = inside F (d .level) (d .q) (l .demand .inside) .position in
-    let most : 2 ^ F * l .k + d .q ≤ 2 ^ F * p .segments = further (2 ^ F) (l .k) (d .q) (p .segments) here (l .segment) in
+    let near = placed-near F p e l in
     let shown : (c : Coordinate) → Size (pixel (of c d)) 16385 = λ c. record { le = l .demand .stands c .shown } in
     record {
-      position = size-by (ap (λ (f : Entry). f .position) (l .shown)) most (size-of (2 ^ F * l .k + d .q));
+      position = size-by (near .position) (near .inside) (size-of (near .at));
       x = size-by (ap (λ (f : Entry). f .x) (l .shown)) (omega arith) (shown in-x);
       y = size-by (ap (λ (f : Entry). f .y) (l .shown)) (omega arith) (shown in-y);
     }
-  where
-    further : (G k q S : ℕ) → q ≤ G → k < S → G * k + q ≤ G * S
-    further G k q S h l = omega (arith, mul-le-mul-left G l)
 
 -- ---- a segment's lines
 

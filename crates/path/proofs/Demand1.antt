@@ -9,7 +9,7 @@ use lib.IntN.{ℤ}
 use lib.ListN.{length, drop}
 use borrow.Author.Tests.{leb-true}
 use Rattle.rules.specs.Refusals.{unless, firstOf, refusalOr, filled, Among}
-use Rattle.rules.specs.Rules.{reach, isLevel, areLimits, standardUpper, standardLower, isSize, arePoints, areChained, pointsRefusal}
+use Rattle.rules.specs.Rules.{reach, isLevel, areLimits, isSize, arePoints, areChained, pointsRefusal}
 use Rattle.rules.proofs.Refusals.{rule-kept, line-among, among, first-kept, first-among, number-answered, refused-answers, filled-refused}
 use Rattle.entries.specs.Entries.{entrySize, flat}
 use Rattle.entries.specs.Length.{lengthOf}
@@ -58,14 +58,14 @@ draw-refuses-as-tabled F p room =
     (path-among F p (among tt) (among tt) (among tt) (among tt) (among tt) (line-among (areLimits (p .upper) (p .lower)) (among tt) (among tt)))
     (among tt) (among tt))
 
--- under the standard limits without 4
+-- under the standard limits, 65,536 and 32,768, without 4
 module _ (F : ℕ) (points : List ℤ) (segments level : ℕ) where
-  pub standard-measure-refuses-as-tabled : Among (measured F (path points segments level standardUpper standardLower) .refusal) standardMeasureTable
+  pub standard-measure-refuses-as-tabled : Among (measured F (path points segments level 65536 32768) .refusal) standardMeasureTable
   unfolding areLimits
   standard-measure-refuses-as-tabled = rw measured-refusal (path-among F _ (among tt) (among tt) (among tt) (among tt) (among tt) (among tt))
 
   pub standard-draw-refuses-as-tabled : (room : ℕ)
-      → Among (drawn F (path points segments level standardUpper standardLower) room .refusal) standardDrawTable
+      → Among (drawn F (path points segments level 65536 32768) room .refusal) standardDrawTable
   unfolding areLimits
   standard-draw-refuses-as-tabled room =
       rw drawn-refusal

@@ -1,4 +1,5 @@
 -- Laws of paths and their lists.
+pub mod Points
 pub mod Accepted
 pub mod Refusals
 pub mod Demand1
@@ -7,4 +8,7 @@ pub mod Turns
 pub mod Joined
 pub mod Walk
 pub mod Spans
+pub mod Goes
+pub mod Steps
+pub mod Near
 pub mod Listed

@@ -6,27 +6,23 @@ use native.Mathlib.Nat.{add-zero, zero-add, le-trans, mul-le-mul-left, not-suc-l
 use native.Mathlib.Omega.{arith}
 use lib.ListN.{length, length-append}
 use Rattle.numbers.specs.Tables.{All}
-use Rattle.numbers.proofs.Tables.{all-append}
-use Rattle.coordinate.specs.Registers.{Operation, step}
+use Rattle.numbers.proofs.Tables.{all-append, all-weaker}
 use Rattle.engine.specs.declared.Drawing.{Drawing}
-use Rattle.engine.specs.declared.Moved.{Moved}
-use Rattle.engine.specs.Drawing.{turned}
 use Rattle.distance.specs.Demand3.{Fine}
-use Rattle.distance.proofs.Choice.{choice-answers, chosen-accepted}
 use Rattle.distance.proofs.Demand3.{fine}
 use Rattle.entries.specs.declared.Entry.{Entry}
 use Rattle.entries.specs.Entries.{Among, Linked, lastOf}
 use Rattle.entries.specs.Length.{lengthOf}
 use Rattle.entries.proofs.Length.{length-most}
-use Rattle.entries.proofs.Along.{last-append, linked-append, among-head, among-before, among-after, among-joined}
+use Rattle.entries.proofs.Along.{last-append, linked-append, among-head, among-joined}
 use Rattle.path.specs.Path.{Path, pathRefusal, first}
-use Rattle.path.specs.Segment.{Turn, turns}
-use Rattle.path.specs.Entries.{entry, shown, shownBy, rest, following, entries}
-use Rattle.path.specs.Listed.{begins, corner, Follows, Placed, Goes, Shows, Listed, InNumbers}
+use Rattle.path.specs.Entries.{entry, rest, following, entries}
+use Rattle.path.specs.Listed.{corner, Follows, Placed, Listed, InNumbers}
 use Rattle.path.proofs.Accepted.{accepted-lawful}
-use Rattle.path.proofs.Segments.{Of, Sound, sound, fits, begun-first, of-inside, of-next, held-first}
-use Rattle.path.proofs.Turns.{along}
+use Rattle.path.proofs.Segments.{Sound, sound, held-first}
 use Rattle.path.proofs.Spans.{entry-first, span-last, span-linked, span-count, placed-at, span-placed}
+use Rattle.path.proofs.Steps.{calls, calls-go, following-steps}
+use Rattle.path.proofs.Near.{placed-near, near-in-numbers}
 
 -- ---- the segments from the k-th on
 
@@ -94,54 +90,11 @@ module _ (F : ℕ) (p : Path) (good : (k : ℕ) → k < p .segments → Sound F 
       (span-placed F p k s e (omega arith) (start k) (held-first F p k s))
       (following-placed e m (k + 1) (omega arith))
 
-  all-go : (k : ℕ) → k < p .segments → All (Goes F (p .upper) (p .lower)) (turns F (p .upper) (p .lower) (start k))
-  all-go k l =
-      let s = good k l in
-      along F (p .upper) (p .lower) (Of F p k) (of-inside F p k) (of-next F p k) (λ d ts. All (Goes F (p .upper) (p .lower)) ts)
-      (λ d on e. tt)
-      (λ d on b ts go. (
-        record {
-          named = choice-answers F _ d on (p .upper) (p .lower) (s .limits) b;
-          accepted = chosen-accepted F _ d on (p .upper) (p .lower) (fits F p k s) b;
-        },
-        go,
-      ))
-      (start k) (s .first)
-
--- ---- the point after each step is listed
-
-shows-more : (F k : ℕ) (es fs : List Entry) → ((e : Entry) → Among e es → Among e fs) → (ts : List Turn) → All (Shows F k es) ts → All (Shows F k fs) ts
-shows-more F k es fs f [] s = tt
-shows-more F k es fs f (t ∷ ts) s = (λ e. f (entry F k (turned F step (t .drawing))) (s .0 e), shows-more F k es fs f ts (s .1))
-
-shows-own : (F k : ℕ) (ts : List Turn) → All (Shows F k (shownBy F k ts)) ts
-unfolding shownBy
-shows-own F k [] = tt
-shows-own F k (t ∷ ts) =
-    let own = shown F k (t .operation) (t .drawing) in (
-      λ e. subst (λ (op : Operation). Among (entry F k (turned F step (t .drawing))) (shown F k op (t .drawing) ++ shownBy F k ts)) (sym e) (among-head _ _),
-      shows-more F k (shownBy F k ts) (own ++ shownBy F k ts) (λ f. among-after f own (shownBy F k ts)) ts (shows-own F k ts),
-    )
-
--- what segment k + i lists is listed
-following-has : (F : ℕ) (p : Path) (e : Entry) (m k i : ℕ) → i < m → Among e (rest F p (k + i) (first (p .points) (p .level) (k + i))) → Among e (following F p k m)
-unfolding following
-following-has F p e zero k i h a = absurd (not-suc-le-zero h)
-following-has F p e (suc m) k zero h a =
-    among-before e _ (following F p (k + 1) m) (subst (λ (j : ℕ). Among e (rest F p j (first (p .points) (p .level) j))) (add-zero k) a)
-following-has F p e (suc m) k (suc i) h a =
-    let n : k + suc i ≡ k + 1 + i = omega arith in
-    among-after e (rest F p k (first (p .points) (p .level) k)) (following F p (k + 1) m)
-    (following-has F p e m (k + 1) i (le-of-suc-le-suc h) (subst (λ (j : ℕ). Among e (rest F p j (first (p .points) (p .level) j))) n a))
-
-steps-listed : (F : ℕ) (p : Path) (k : ℕ) → k < p .segments → All (Shows F k (entries F p)) (turns F (p .upper) (p .lower) (first (p .points) (p .level) k))
-unfolding rest entries
-steps-listed F p k l =
-    let d = first (p .points) (p .level) 0 in
-    shows-more F k _ (entries F p)
-    (λ e a. among-after e (entry F 0 d ∷ []) (following F p 0 (p .segments)) (following-has F p e (p .segments) 0 k l (rw (zero-add k) a)))
-    (turns F (p .upper) (p .lower) (first (p .points) (p .level) k))
-    (shows-own F k (turns F (p .upper) (p .lower) (first (p .points) (p .level) k)))
+  entries-placed : pathRefusal F p ≡ 0 → 0 < p .segments → All (Placed F p) (entries F p)
+  unfolding entries
+  entries-placed e l =
+      let s = good 0 l in
+      (placed-at F p 0 s e l (start 0) (held-first F p 0 s), following-placed e (p .segments) 0 (omega arith))
 
 pub listed : (F : ℕ) (p : Path) → Fine F → pathRefusal F p ≡ 0 → Listed F p
 unfolding entries lengthOf
@@ -152,20 +105,24 @@ listed F p f e =
     let es = following F p 0 S in
     let whole : entries F p ≡ corner F (p .points) 0 ∷ es = ap (λ (f : Entry). f ∷ es) (start-shown F p good 0 some) in
     let count = following-count F p good S 0 (omega arith) in
-    let start : (k : ℕ) → k < S → begins F p k ≡ first (p .points) (p .level) k = λ k l. ap (λ (m : Moved). m .drawing) (begun-first F p e k l) in
+    let placed = entries-placed F p good e some in
     record {
       after = es;
       starts = whole;
       ends = following-last F p good S 0 (omega arith) ∙ ap (corner F (p .points)) (zero-add S);
       corners = λ k l. rw whole (rw (zero-add k) at (following-corners F p good S 0 k (omega arith) l));
       linked = following-linked F p good S 0 (omega arith);
-      placed = (placed-at F p 0 (good 0 some) e some (first (p .points) (p .level) 0) (held-first F p 0 (good 0 some)), following-placed F p good e S 0 (omega arith));
-      goes = λ k l. subst (λ (d : Drawing). All (Goes F (p .upper) (p .lower)) (turns F (p .upper) (p .lower) d)) (sym (start k l)) (all-go F p good k l);
-      steps = λ k l. subst (λ (d : Drawing). All (Shows F k (entries F p)) (turns F (p .upper) (p .lower) d)) (sym (start k l)) (steps-listed F p k l);
+      placed = placed;
+      near = all-weaker (placed-near F p) (entries F p) placed;
+      calls = calls F p;
+      goes = calls-go F p good e;
+      steps = following-steps F p good e;
       count = omega arith;
       total = le-trans (length-most _ es) (mul-le-mul-left 1414 count);
     }
 
 pub in-numbers : (p : Path) → pathRefusal 11 p ≡ 0 → InNumbers p
 unfolding corner
-in-numbers p e = let l = listed 11 p fine e in record { corners = l .corners; count = l .count; total = l .total }
+in-numbers p e =
+    let l = listed 11 p fine e in
+    record { corners = l .corners; near = all-weaker (near-in-numbers p) (entries 11 p) (l .near); count = l .count; total = l .total }

@@ -7,17 +7,12 @@ use lib.ListN.{length, getD}
 use borrow.Author.Tests.{le-leb, lt-leb}
 use Rattle.rules.specs.Refusals.{unless}
 use Rattle.rules.specs.Rules.{reach, isCoordinate, areNeighbours, isLevel, areLimits, coordinates, isSize, arePoints, areChained, pointsRefusal}
-use Rattle.rules.proofs.Refusals.{first-on}
+use Rattle.rules.proofs.Refusals.{broken, first-on, first-stop}
 use Rattle.rules.proofs.Every.{points-hold, chained-hold}
 use Rattle.entries.specs.Entries.{entrySize}
 use Rattle.path.specs.Path.{Path, pathRefusal}
 use Rattle.path.specs.Entries.{entries}
 use Rattle.path.specs.Answer.{drawRefusal}
-
--- a test that cannot be true
-broken : (b : Bool) → (b ≡ true → ⊥) → b ≡ false
-broken true h = absurd (h refl)
-broken false h = refl
 
 module _ (F : ℕ) (p : Path) where
   pub refuses-14 : isSize (p .segments) (length (p .points)) ≡ false → pathRefusal F p ≡ 14
@@ -49,6 +44,11 @@ module _ (F : ℕ) (p : Path) where
         pub refuses-4 : isLevel F (p .level) ≡ true → areLimits (p .upper) (p .lower) ≡ false → pathRefusal F p ≡ 4
         unfolding pathRefusal pointsRefusal
         refuses-4 l e = rw (size, points, chained, l, e)
+
+-- 9 comes last: where the path itself is refused, that number is answered, however short the list is
+pub refuses-before-9 : (F : ℕ) (p : Path) (room : ℕ) → (pathRefusal F p ≡ 0 → ⊥) → drawRefusal F p room ≡ pathRefusal F p
+unfolding drawRefusal
+refuses-before-9 F p room = first-stop (pathRefusal F p) _
 
 pub refuses-9 : (F : ℕ) (p : Path) (room : ℕ) → pathRefusal F p ≡ 0 → room < entrySize * length (entries F p) → drawRefusal F p room ≡ 9
 unfolding drawRefusal

@@ -4,4 +4,5 @@ pub mod Entries
 pub mod Answer
 pub mod Lawful
 pub mod Joined
+pub mod Steps
 pub mod Listed

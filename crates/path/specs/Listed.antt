@@ -1,26 +1,26 @@
 -- What document 01 says of the list of an accepted path, beside its numbers, at any finest level F.
 use mathlib.Core.Path.{_≡_}
-use mathlib.Core.List.{List, [], _∷_}
+use mathlib.Core.List.{List, _∷_, map}
 use Prim.Native.Nat.{ℕ, _+_, _*_, _^_, _≤_, _<_}
-use lib.IntN.{ℤ, pos, natAbs, _-ℤ_}
+use lib.IntN.{ℤ, pos, natAbs, _-ℤ_, _*ℤ_}
 use lib.ListN.{length}
 use lib.Signed.{_<ℤ_}
 use Rattle.numbers.specs.Tables.{All}
 use Rattle.rules.specs.Rules.{degree}
-use Rattle.coordinate.specs.Registers.{Operation, step}
-use Rattle.operations.specs.Coordinates.{in-x, in-y}
+use Rattle.coordinate.specs.declared.Control.{Control}
+use Rattle.coordinate.specs.Curve.{curve, exact}
+use Rattle.coordinate.specs.Registers.{Operation}
+use Rattle.operations.specs.Coordinates.{Coordinate, in-x, in-y, pick}
 use Rattle.engine.specs.declared.Drawing.{Drawing}
-use Rattle.engine.specs.Drawing.{turned, called}
 use Rattle.engine.specs.Start.{started}
-use Rattle.engine.specs.Choice.{says, choice}
 use Rattle.distance.specs.Calls.{after, travelled}
 use Rattle.distance.specs.Demand3.{Demand3}
 use Rattle.entries.specs.declared.Entry.{Entry}
 use Rattle.entries.specs.Entries.{Among, Linked, lastOf}
 use Rattle.entries.specs.Length.{lengthOf}
 use Rattle.path.specs.Path.{Path, pointAt, place, controls, courses}
-use Rattle.path.specs.Segment.{Turn, turns}
 use Rattle.path.specs.Entries.{entry, entries}
+use Rattle.path.specs.Steps.{Goes, afterSteps, inOrder}
 
 -- where segment k starts: what the engine's start answers, at the path's start level
 abbrev pub begins : ℕ → Path → ℕ → Drawing
@@ -50,14 +50,18 @@ pub record Placed (F : ℕ) (p : Path) (e : Entry) : Type 0 where
   pub shown : e ≡ entry F k (after F calls (begins F p k))
   pub demand : Demand3 F (courses (p .points) k) (after F calls (begins F p k)) (travelled F calls (begins F p k))
 
--- choosing names the operation of each turn, and the call is not refused
-pub record Goes (F upper lower : ℕ) (t : Turn) : Type 0 where
-  pub named : choice F upper lower (t .drawing) ≡ says (t .operation)
-  pub accepted : called F (t .operation) (t .drawing) ≡ record { refusal = 0; drawing = turned F (t .operation) (t .drawing) }
+-- z is less than m 65,536ths of a unit from y / 2^(3F)
+abbrev pub Within : ℕ → ℕ → ℤ → ℤ → Type 0
+Within F m y z = natAbs (pos 65536 *ℤ z *ℤ pos (2 ^ (3 * F)) -ℤ pos 65536 *ℤ y) < m * 2 ^ (3 * F)
 
--- the point after each step of segment k is one of the entries
-abbrev pub Shows : ℕ → ℕ → List Entry → Turn → Type 0
-Shows F k es t = t .operation ≡ step → Among (entry F k (turned F step (t .drawing))) es
+-- An entry stands where its position says: wherever that is 2^F·k + q, at a join for both segments, x and y are less than half a unit and
+-- 3·2^F 65,536ths from the exact curve of segment k at t = q / 2^F.
+pub record Near (F : ℕ) (p : Path) (e : Entry) : Type 0 where
+  pub at : ℕ
+  pub position : e .position ≡ pos at
+  pub inside : at ≤ 2 ^ F * p .segments
+  pub near : (k q : ℕ) → k < p .segments → q ≤ 2 ^ F → at ≡ 2 ^ F * k + q → (c : Coordinate)
+      → Within F (32768 + 3 * 2 ^ F) (exact F (courses (p .points) k c .curve) q) (pick (e .x) (e .y) c)
 
 pub record Listed (F : ℕ) (p : Path) : Type 0 where
   -- the list starts at the path's first control point, ends at its last, and has control point 3k at each 2^F·k
@@ -67,17 +71,37 @@ pub record Listed (F : ℕ) (p : Path) : Type 0 where
   pub corners : (k : ℕ) → k ≤ p .segments → Among (corner F (p .points) k) (entries F p)
   -- neighbours touch, over joins too, and positions rise strictly
   pub linked : Linked Follows (corner F (p .points) 0) after
+  -- each entry stands where the exact curve stands
   pub placed : All (Placed F p) (entries F p)
-  -- in every segment each chosen operation is accepted, and the point after each step is listed
-  pub goes : (k : ℕ) → k < p .segments → All (Goes F (p .upper) (p .lower)) (turns F (p .upper) (p .lower) (begins F p k))
-  pub steps : (k : ℕ) → k < p .segments → All (Shows F k (entries F p)) (turns F (p .upper) (p .lower) (begins F p k))
+  pub near : All (Near F p) (entries F p)
+  -- in each segment every chosen operation is accepted; after the start the list has the point after each step, in order, and nothing else
+  pub calls : ℕ → List Operation
+  pub goes : (k : ℕ) → k < p .segments → Goes F (p .upper) (p .lower) (begins F p k) (calls k)
+  pub steps : after ≡ inOrder (p .segments) (λ k. map (entry F k) (afterSteps F (calls k) (begins F p k)))
   -- at most 2^F points a segment after the start, each at most 1,414 away
   pub count : length (entries F p) ≤ 2 ^ F * p .segments + 1
   pub total : lengthOf (entries F p) ≤ 1414 * (2 ^ F * p .segments)
 
--- at F = 11, in the document's own numbers: the corners stand at 2,048·k, and the most points and length
+-- ---- at F = 11, in the document's own numbers
+
+-- segment k uses points 3k to 3k + 3: coordinate c of them
+abbrev pub segmentPoints : List ℤ → ℕ → ℕ → Control
+segmentPoints points c k =
+    record { p0 = pointAt points c (3 * k); p1 = pointAt points c (3 * k + 1); p2 = pointAt points c (3 * k + 2); p3 = pointAt points c (3 * k + 3) }
+
+-- Position is 2,048·k + q; half a unit and 6,144 are 38,912. `exact 11 f q` is A·q³ + B·q²·2^11 + C·q·2^22 + D·2^33.
+pub record NearInNumbers (p : Path) (e : Entry) : Type 0 where
+  pub at : ℕ
+  pub position : e .position ≡ pos at
+  pub inside : at ≤ 2048 * p .segments
+  pub near : (k q : ℕ) → k < p .segments → q ≤ 2048 → at ≡ 2048 * k + q → (c : Coordinate)
+      → natAbs (pos 65536 *ℤ pick (e .x) (e .y) c *ℤ pos (2 ^ 33) -ℤ pos 65536 *ℤ exact 11 (curve (segmentPoints (p .points) (pick 0 1 c) k)) q)
+      < 38912 * 2 ^ 33
+
+-- the corners stand at 2,048·k, every entry is near the exact curve, and the most points and length
 pub record InNumbers (p : Path) : Type 0 where
   pub corners : (k : ℕ) → k ≤ p .segments
       → Among (record { position = pos (2048 * k); x = pointAt (p .points) 0 (3 * k); y = pointAt (p .points) 1 (3 * k) }) (entries 11 p)
+  pub near : All (NearInNumbers p) (entries 11 p)
   pub count : length (entries 11 p) ≤ 2048 * p .segments + 1
   pub total : lengthOf (entries 11 p) ≤ 1414 * (2048 * p .segments)

@@ -1,0 +1,97 @@
+-- Every entry of an accepted path is near the exact curve at its position: half a unit farther than demand 3 lets the registers be.
+use mathlib.Core.Path.{_≡_, sym, ap, ap₂, _∙_, subst}
+use mathlib.Core.List.{List}
+use Prim.Native.Nat.{ℕ, zero, suc, _+_, _*_, _-_, _^_, _≤_, _<_}
+use native.Mathlib.Nat.{mul-le-mul-left}
+use native.Mathlib.Omega.{arith}
+use lib.Dec.{leb}
+use lib.IntN.{ℤ, pos, _*ℤ_}
+use lib.Pow.{pow-pos}
+use borrow.Author.Tests.{leb-true, leb-false}
+use Rattle.coordinate.specs.declared.Control.{Control}
+use Rattle.coordinate.specs.Curve.{curve, exact}
+use Rattle.coordinate.specs.Shown.{pixel}
+use Rattle.coordinate.proofs.Bernstein.{starts, ends}
+use Rattle.coordinate.proofs.Half.{shown-near}
+use Rattle.operations.specs.Coordinates.{Coordinate, in-x, in-y, pick}
+use Rattle.operations.proofs.Gates.{inside}
+use Rattle.engine.specs.Drawing.{of}
+use Rattle.distance.specs.Calls.{after}
+use Rattle.entries.specs.declared.Entry.{Entry}
+use Rattle.path.specs.Path.{Path, pointAt, place, control, controls, courses}
+use Rattle.path.specs.Entries.{entry}
+use Rattle.path.specs.Listed.{begins, Placed, Within, Near, NearInNumbers}
+use Rattle.path.proofs.Points.{segment-uses}
+use Rattle.path.proofs.Turns.{by-test}
+
+-- ---- the exact curve at a position
+
+module _ (F : ℕ) (points : List ℤ) (c : Coordinate) where
+  abbrev exactAt : ℕ → ℕ → ℤ
+  exactAt k q = exact F (courses points k c .curve) q
+
+  -- a segment ends where the next one starts
+  exact-joined : (k : ℕ) → exactAt k (2 ^ F) ≡ exactAt (k + 1) 0
+  unfolding control
+  exact-joined k =
+      let next : 3 * k + 3 ≡ 3 * (k + 1) = omega arith in
+      ends F (controls points k c)
+      ∙ ap (λ (i : ℕ). pointAt points (place c) i *ℤ pos (2 ^ (3 * F))) next
+      ∙ sym (starts F (controls points (k + 1) c))
+
+  -- a position on segment k, and on segment k + j
+  exact-further : (j k q q' : ℕ) → q ≤ 2 ^ F → q' ≤ 2 ^ F → 2 ^ F * k + q ≡ 2 ^ F * (k + j) + q' → exactAt k q ≡ exactAt (k + j) q'
+  exact-further zero k q q' h h' e =
+      let same : q ≡ q' = omega arith in
+      let here : k ≡ k + 0 = omega arith in
+      ap₂ exactAt here same
+  exact-further (suc zero) k q q' h h' e =
+      let last : q ≡ 2 ^ F = omega arith in
+      let first : 0 ≡ q' = omega arith in
+      ap (exactAt k) last ∙ exact-joined k ∙ ap (exactAt (k + 1)) first
+  exact-further (suc (suc j)) k q q' h h' e = let no : ⊥ = omega (arith, pow-pos F) in absurd no
+
+  exact-same : (k q k' q' : ℕ) → q ≤ 2 ^ F → q' ≤ 2 ^ F → 2 ^ F * k + q ≡ 2 ^ F * k' + q' → exactAt k q ≡ exactAt k' q'
+  exact-same k q k' q' h h' e =
+      by-test (leb k k')
+      (λ t.
+      let l = leb-true k k' t in
+      let there : k + (k' - k) ≡ k' = omega arith in
+      exact-further (k' - k) k q q' h h' (rw there e) ∙ ap (λ (i : ℕ). exactAt i q') there)
+      (λ t.
+      let l = leb-false k k' t in
+      let there : k' + (k - k') ≡ k = omega arith in
+      ap (λ (i : ℕ). exactAt i q) (sym there) ∙ sym (exact-further (k - k') k' q' q h' h (rw there (sym e))))
+
+-- ---- an entry
+
+further : (G k q S : ℕ) → q ≤ G → k < S → G * k + q ≤ G * S
+further G k q S h l = omega (arith, mul-le-mul-left G l)
+
+pub placed-near : (F : ℕ) (p : Path) (e : Entry) → Placed F p e → Near F p e
+unfolding entry
+placed-near F p e l =
+    let d = after F (l .calls) (begins F p (l .k)) in
+    let within = inside F (d .level) (d .q) (l .demand .inside) .position in
+    record {
+      at = 2 ^ F * l .k + d .q;
+      position = ap (λ (f : Entry). f .position) (l .shown);
+      inside = further (2 ^ F) (l .k) (d .q) (p .segments) within (l .segment);
+      near = λ k q _ h same c.
+          subst (λ (y : ℤ). Within F (32768 + 3 * 2 ^ F) y (pick (e .x) (e .y) c)) (exact-same F (p .points) c (l .k) (d .q) k q within h same)
+          (rw (number c) (shown-near F (courses (p .points) (l .k) c) (d .q) (of c d) (l .demand .stands c)));
+    }
+  where
+    number : (c : Coordinate) → pick (e .x) (e .y) c ≡ pixel (of c (after F (l .calls) (begins F p (l .k))))
+    number in-x = ap (λ (f : Entry). f .x) (l .shown)
+    number in-y = ap (λ (f : Entry). f .y) (l .shown)
+
+pub near-in-numbers : (p : Path) (e : Entry) → Near 11 p e → NearInNumbers p e
+near-in-numbers p e n =
+    record {
+      at = n .at;
+      position = n .position;
+      inside = n .inside;
+      near = λ k q s h l c.
+          subst (λ (g : Control). Within 11 38912 (exact 11 (curve g) q) (pick (e .x) (e .y) c)) (segment-uses (p .points) k c) (n .near k q s h l c);
+    }

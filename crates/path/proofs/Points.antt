@@ -1,0 +1,31 @@
+-- A path's five arguments, and its points as numbers: x0, y0, x1, y1, .., of which segment k uses points 3k to 3k + 3.
+use mathlib.Core.Path.{_≡_, refl, ap}
+use mathlib.Core.List.{List, _∷_}
+use Prim.Native.Nat.{ℕ, suc, _+_, _*_}
+use native.Mathlib.Omega.{arith}
+use lib.IntN.{ℤ, pos}
+use lib.ListN.{getD}
+use Rattle.rules.specs.Rules.{coordinates}
+use Rattle.operations.specs.Coordinates.{Coordinate, in-x, in-y, pick}
+use Rattle.path.specs.Path.{Path, path, pointAt, control, controls}
+use Rattle.path.specs.Listed.{segmentPoints}
+
+pub arguments-in-order : (points : List ℤ) (segments level upper lower : ℕ)
+    → path points segments level upper lower
+    ≡ record { points = points; segments = segments; level = level; upper = upper; lower = lower }
+arguments-in-order points segments level upper lower = refl
+
+pub x-then-y : (x y : ℤ) (points : List ℤ) → (pointAt (x ∷ y ∷ points) 0 0 ≡ x) × (pointAt (x ∷ y ∷ points) 1 0 ≡ y)
+unfolding pointAt
+x-then-y x y points = (refl, refl)
+
+pub point-after-point : (x y : ℤ) (points : List ℤ) (c i : ℕ) → pointAt (x ∷ y ∷ points) c (i + 1) ≡ pointAt points c i
+unfolding pointAt
+point-after-point x y points c i =
+    let next : coordinates * (i + 1) + c ≡ suc (suc (coordinates * i + c)) = omega arith in
+    ap (λ (n : ℕ). getD (x ∷ y ∷ points) n (pos 0)) next
+
+pub segment-uses : (points : List ℤ) (k : ℕ) (c : Coordinate) → controls points k c ≡ segmentPoints points (pick 0 1 c) k
+unfolding control
+segment-uses points k in-x = refl
+segment-uses points k in-y = refl

@@ -1,0 +1,27 @@
+-- The points of a segment as a caller of the engine has them: choosing names one operation after another, and after each step there is a point.
+use mathlib.Core.Path.{_≡_}
+use mathlib.Core.List.{List, [], _∷_, _++_}
+use Prim.Native.Nat.{ℕ, zero, suc, _^_}
+use Rattle.coordinate.specs.Registers.{Operation, halve, double, step}
+use Rattle.engine.specs.declared.Drawing.{Drawing}
+use Rattle.engine.specs.Drawing.{called}
+use Rattle.engine.specs.Choice.{says, choice}
+use Rattle.entries.specs.declared.Entry.{Entry}
+
+-- The operations from d on: choosing names each of them and its call is not refused, until drawing stops at q = 2^F.
+abbrev pub Goes : ℕ → ℕ → ℕ → Drawing → List Operation → Type 0
+Goes F upper lower d [] = d .q ≡ 2 ^ F
+Goes F upper lower d (op ∷ ops) =
+    (choice F upper lower d ≡ says op) × (called F op d .refusal ≡ 0) × Goes F upper lower (called F op d .drawing) ops
+
+-- the drawing after each step among them, in order
+abbrev pub afterSteps : ℕ → List Operation → Drawing → List Drawing
+afterSteps F [] d = []
+afterSteps F (halve ∷ ops) d = afterSteps F ops (called F halve d .drawing)
+afterSteps F (double ∷ ops) d = afterSteps F ops (called F double d .drawing)
+afterSteps F (step ∷ ops) d = called F step d .drawing ∷ afterSteps F ops (called F step d .drawing)
+
+-- of m segments, from the first to the last
+abbrev pub inOrder : ℕ → (ℕ → List Entry) → List Entry
+inOrder zero part = []
+inOrder (suc m) part = inOrder m part ++ part m
