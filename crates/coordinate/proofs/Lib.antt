@@ -2,6 +2,7 @@
 pub mod Points
 pub mod Bits
 pub mod Start
+pub mod Floors
 pub mod Bernstein
 pub mod Exact
 pub mod Back

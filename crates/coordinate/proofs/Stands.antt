@@ -1,17 +1,18 @@
 -- Demand 3 for one coordinate: wherever the invariant holds of a tame course, its registers fit 32 bits and it stands where the course stands.
 use mathlib.Core.Path.{_≡_, refl, ap, _∙_, subst}
 use mathlib.Core.Bool.{true, _&&_}
-use Prim.Native.Nat.{ℕ, _+_, _*_, _^_, _≤_}
+use Prim.Native.Nat.{ℕ, _+_, _*_, _^_, _≤_, _<_}
 use native.Mathlib.Nat.{le-trans, mul-le-mul-right}
 use native.Mathlib.Omega.{arith}
 use lib.Dec.{lit≤}
 use lib.Pow.{pow-mono}
-use lib.IntN.{ℤ, pos, negsuc, _*ℤ_}
+use lib.IntN.{ℤ, pos, negsuc, natAbs, _+ℤ_, _-ℤ_, _*ℤ_}
 use borrow.Author.Tests.{le-leb}
 use Rattle.numbers.proofs.Size.{Size, size-of, size-by, size-sum, size-floor}
+use Rattle.coordinate.specs.declared.Control.{Control}
 use Rattle.coordinate.specs.declared.Registers.{Registers}
-use Rattle.coordinate.specs.Curve.{Curve}
-use Rattle.coordinate.specs.Course.{Course}
+use Rattle.coordinate.specs.Curve.{Curve, curve, exact}
+use Rattle.coordinate.specs.Course.{Course, cubic}
 use Rattle.coordinate.specs.Registers.{isRegister, areRegisters}
 use Rattle.coordinate.specs.Shown.{pixel}
 use Rattle.coordinate.specs.Stands.{Stands}
@@ -62,3 +63,21 @@ stands F p n j q r h t o =
       last-shown = λ e. last-shown F p n j r h t (subst (λ (t : ℕ). At F (p .curve) n j t r) e o);
       shown = shown-size F p n j q r h t o .le;
     }
+
+-- ---- at F = 11, in the demand's own numbers
+
+-- f(q / 2,048), times 2^33
+abbrev pub exactly : Control → ℕ → ℤ
+exactly p q =
+    let f = curve p in
+    f .A *ℤ pos (q * q * q) +ℤ f .B *ℤ pos (q * q * 2048) +ℤ f .C *ℤ pos (q * 4194304) +ℤ f .D *ℤ pos 8589934592
+
+pub in-numbers : (p : Control) (q : ℕ) (r : Registers) → Stands 11 (cubic p) q r
+    → (areRegisters r ≡ true)
+    × (natAbs (r .d *ℤ pos 8589934592 -ℤ pos 65536 *ℤ exactly p q) < 6144 * 8589934592)
+    × (q ≡ 0 → r .d ≡ pos 65536 *ℤ p .p0)
+    × (q ≡ 0 → pixel r ≡ p .p0)
+    × (q ≡ 2048 → pixel r ≡ p .p3)
+    × (natAbs (pixel r) ≤ 16385)
+unfolding exact
+in-numbers p q r s = (s .fits, s .near, s .first, s .first-shown, s .last-shown, s .shown)

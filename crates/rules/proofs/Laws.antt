@@ -10,7 +10,7 @@ use borrow.Author.Tests.{leb-true, eqb-true, le-leb, eq-eqb}
 use Rattle.numbers.proofs.Order.{leZ-true, le-leZ}
 use Rattle.numbers.proofs.Size.{Size}
 use Rattle.numbers.proofs.Tests.{and-true, and-three}
-use Rattle.rules.specs.Rules.{isCoordinate, areNeighbours, areLimits, mostSegments, isSegments, pointNumbers, isSize, natural}
+use Rattle.rules.specs.Rules.{isCoordinate, areNeighbours, areLimits, standardUpper, standardLower, mostSegments, isSegments, pointNumbers, isSize, natural}
 
 pub coordinate-size : (p : ℤ) → isCoordinate p ≡ true → Size p 16384
 unfolding isCoordinate
@@ -31,6 +31,10 @@ pub neighbours-size : (W : ℕ) (p p' : ℤ) → areNeighbours W p p' ≡ true �
 unfolding areNeighbours
 neighbours-size W p p' e = record { le = leb-true _ W e }
 
+pub size-neighbours : (W : ℕ) (p p' : ℤ) → Size (p' -ℤ p) W → areNeighbours W p p' ≡ true
+unfolding areNeighbours
+size-neighbours W p p' s = le-leb _ W (s .le)
+
 pub record Limits (upper lower : ℕ) : Type 0 where
   pub least : 1 ≤ upper
   pub most : upper ≤ 65536
@@ -46,6 +50,10 @@ pub hold-limits : {upper lower : ℕ} → Limits upper lower → areLimits upper
 unfolding areLimits
 hold-limits {upper} {lower} l =
     ap₂ _&&_ (ap₂ _&&_ (le-leb 1 upper (l .least)) (le-leb upper 65536 (l .most))) (le-leb lower upper (l .order))
+
+-- an entry without limits uses 65,536 and 32,768
+pub standard-limits : (standardUpper ≡ 65536) × (standardLower ≡ 32768)
+standard-limits = (refl, refl)
 
 pub record Sized (S numbers : ℕ) : Type 0 where
   pub some : 1 ≤ S

@@ -1,6 +1,6 @@
 -- How tables of refusals are read; the two ways of an answer, a refusal or else the answer; and what a lent buffer holds afterwards.
 use mathlib.Core.Path.{_≡_, refl, sym, ap, subst, _∙_}
-use mathlib.Core.Bool.{Bool, true, false}
+use mathlib.Core.Bool.{Bool, true, false, not}
 use mathlib.Core.List.{List, [], _∷_, _++_}
 use Prim.Native.Nat.{ℕ, zero, suc}
 use native.Mathlib.Omega.{arith}
@@ -8,7 +8,8 @@ use lib.Dec.{T, eqb}
 use lib.ListN.{length, take, drop}
 use lib.Seq.{take-append-seam, drop-append-seam}
 use borrow.Author.Tests.{eqb-true}
-use Rattle.numbers.specs.Tables.{All}
+use Rattle.numbers.specs.Tables.{All, every}
+use Rattle.numbers.proofs.Tables.{tested}
 use Rattle.rules.specs.Refusals.{unless, firstOf, refusalOr, filled, isAmong, Among}
 
 -- ---- one line of a table
@@ -40,6 +41,21 @@ among-all P k (n ∷ table) a t = by-first (eqb k n) refl (λ e. among-all P k t
     by-first : (b : Bool) → eqb k n ≡ b → (eqb k n ≡ false → P k) → P k
     by-first true e rest = subst P (sym (eqb-true k n e)) (a .0)
     by-first false e rest = rest e
+
+pub among-wider : {k : ℕ} (table wider : List ℕ) → Among k table → T (every (λ n. isAmong n wider) table) → Among k wider
+among-wider {k} table wider a t =
+    among-all (λ n. Among n wider) k table (tested (λ n. Among n wider) (λ n. isAmong n wider) (λ n t. record { is = t }) table t) a
+
+-- and no number that is not in the table
+pub untabled : {k : ℕ} (table others : List ℕ) → Among k table → T (every (λ n. not (isAmong n table)) others) → All (λ n. k ≡ n → ⊥) others
+untabled {k} table others a t = tested (λ n. k ≡ n → ⊥) (λ n. not (isAmong n table)) none others t
+  where
+    both : (b : Bool) → T b → T (not b) → ⊥
+    both true t n = n
+    both false t n = t
+
+    none : (n : ℕ) → T (not (isAmong n table)) → k ≡ n → ⊥
+    none n t e = both (isAmong n table) (subst (λ (m : ℕ). Among m table) e a .is) t
 
 -- ---- one table and then another
 

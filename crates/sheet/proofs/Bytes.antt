@@ -6,8 +6,8 @@ use Prim.Native.Nat.{ℕ, zero, suc, _+_, _-_, _*_, _/_, _%_, _≤_, _<_}
 use native.Mathlib.Nat.{add-zero}
 use native.Mathlib.Numerals.{towards-suc}
 use native.Mathlib.Omega.{arith}
-use borrow.Author.Tests.{lt-ltb, le-ltb}
-use lib.Dec.{ltb}
+use borrow.Author.Tests.{ltb-true, ltb-false, lt-ltb, le-ltb}
+use lib.Dec.{ltb, lit<}
 use lib.IntN.{ℤ, pos, negsuc}
 use lib.ListN.{length, getD, drop, length-append}
 use lib.Seq.{getD-append-add, drop-cons}
@@ -23,6 +23,25 @@ pub values-length : (b : List ℕ) (p n : ℕ) → length (valuesAt b p n) ≡ n
 unfolding valuesAt
 values-length b p zero = refl
 values-length b p (suc n) = ap suc (values-length b (p + 2) n)
+
+-- ---- bytes, and numbers of sixteen bits
+
+-- from 0 to 255: any such list will do
+pub all-bytes : (b : List ℕ) → All (λ n. n < 256) b → Bytes b
+all-bytes b h = record { byte = each b h }
+  where
+    each : (b : List ℕ) → All (λ n. n < 256) b → (i : ℕ) → getD b i 0 < 256
+    each [] h i = lit< tt
+    each (n ∷ b) h zero = h .0
+    each (n ∷ b) h (suc i) = each b (h .1) i
+
+-- whatever sixteen bits are
+pub signed-short : (n : ℕ) → n < 65536 → Short (signed16 n)
+signed-short n h = either (ltb n 32768) refl
+  where
+    either : (small : Bool) → ltb n 32768 ≡ small → Short (cond small (pos n) (negsuc (65535 - n)))
+    either true e = up {n = n} (ltb-true n 32768 e)
+    either false e = down {n = 65535 - n} (omega (arith, ltb-false n 32768 e))
 
 -- ---- what stands after x is read as by itself
 

@@ -1,14 +1,16 @@
 -- Demand 1 for sheets: a refusal is one of the tabled numbers, answers 0 for the count and leaves the lent buffer as found.
 use mathlib.Core.Path.{_≡_}
 use mathlib.Core.Bool.{Bool}
-use mathlib.Core.List.{List}
-use Prim.Native.Nat.{ℕ, zero, suc, _+_}
+use mathlib.Core.List.{List, [], _∷_}
+use Prim.Native.Nat.{ℕ, zero, suc, _+_, _≤_}
 use lib.Dec.{leb, eqb}
 use lib.IntN.{ℤ}
 use lib.ListN.{length}
+use borrow.Author.Tests.{le-leb}
+use Rattle.numbers.specs.Tables.{All}
 use Rattle.rules.specs.Refusals.{Among}
 use Rattle.rules.specs.Rules.{finest, reach, isLevel, areLimits, isSegments, headRefusal, arePoints, areChained, pointsRefusal}
-use Rattle.rules.proofs.Refusals.{first-among, line-among, among, filled-refused}
+use Rattle.rules.proofs.Refusals.{first-among, line-among, among, among-wider, untabled, filled-refused}
 use Rattle.sheet.specs.Bytes.{u32At}
 use Rattle.sheet.specs.Sheet.{Target, leastBytes, mostBytes, mostPaths, listHead, headSize, sheetBytes, sheetNumbers}
 use Rattle.sheet.specs.Records.{recordEnd, sheetAt}
@@ -35,14 +37,21 @@ room-among : (k count room : ℕ) {table : List ℕ} → Among k table → Among
     → Among (answered (roomRefusal k count room) count .refusal) table
 room-among k count room refusal nine none = rw answered-refusal (first-among k _ refusal (line-among (leb count room) nine none))
 
-records-among : (b : List ℕ) (n k p : ℕ) → Among (recordsRefusal b n k p) readTable
+-- of all records, and of all paths
+abbrev recordTable : List ℕ
+recordTable = 0 ∷ 1 ∷ 2 ∷ 3 ∷ 13 ∷ 14 ∷ 15 ∷ 16 ∷ []
+
+abbrev pathTable : List ℕ
+pathTable = 0 ∷ 1 ∷ 2 ∷ 3 ∷ 14 ∷ 17 ∷ []
+
+records-among : (b : List ℕ) (n k p : ℕ) → Among (recordsRefusal b n k p) recordTable
 unfolding recordsRefusal recordRefusal bodyRefusal
 records-among b zero k p = line-among (eqb p (length b)) (among tt) (among tt)
 records-among b (suc n) k p =
     let path = path-among _ _ _ (among tt) (among tt) (among tt) (among tt) (among tt) (among tt) in
     first-among (recordRefusal b k p) _ (line-among (isOffset b k p) (among tt) path) (records-among b n (k + 1) (recordEnd b p))
 
-paths-among : (l : List ℤ) (n i : ℕ) → Among (pathsRefusal l n i) writeTable
+paths-among : (l : List ℤ) (n i : ℕ) → Among (pathsRefusal l n i) pathTable
 unfolding pathsRefusal pathRefusal
 paths-among l zero i = line-among (eqb i (length l)) (among tt) (among tt)
 paths-among l (suc n) i =
@@ -58,7 +67,7 @@ read-refuses-as-tabled b room =
     (line-among (leb (length b) mostBytes) (among tt)
     (line-among (leb N mostPaths) (among tt)
     (line-among (leb (headSize N) (length b)) (among tt)
-    (line-among (areLimits (u32At b 4) (u32At b 8)) (among tt) (records-among b N 0 (headSize N)))))))
+    (line-among (areLimits (u32At b 4) (u32At b 8)) (among tt) (among-wider recordTable readTable (records-among b N 0 (headSize N)) tt))))))
     (among tt) (among tt)
 
 pub write-refuses-as-tabled : (l : List ℤ) (room : ℕ) → Among (writeAnswer l room .refusal) writeTable
@@ -69,8 +78,44 @@ write-refuses-as-tabled l room =
     (line-among (leb listHead (length l)) (among tt)
     (line-among (leb (numberAt l 0) mostPaths) (among tt)
     (line-among (areLimits (numberAt l 1) (numberAt l 2)) (among tt)
-    (first-among (pathsRefusal l (numberAt l 0) listHead) _ (paths-among l (numberAt l 0) listHead) (line-among fits (among tt) (among tt))))))
+    (first-among (pathsRefusal l (numberAt l 0) listHead) _
+    (among-wider pathTable writeTable (paths-among l (numberAt l 0) listHead) tt)
+    (line-among fits (among tt) (among tt))))))
     (among tt) (among tt)
+
+-- no other number is ever answered
+pub read-refuses-nothing-else : (b : List ℕ) (room : ℕ) → All (λ k. readAnswer b room .refusal ≡ k → ⊥) (5 ∷ 6 ∷ 7 ∷ 8 ∷ 10 ∷ 17 ∷ [])
+read-refuses-nothing-else b room = untabled readTable (5 ∷ 6 ∷ 7 ∷ 8 ∷ 10 ∷ 17 ∷ []) (read-refuses-as-tabled b room) tt
+
+pub write-refuses-nothing-else : (l : List ℤ) (room : ℕ)
+    → All (λ k. writeAnswer l room .refusal ≡ k → ⊥) (5 ∷ 6 ∷ 7 ∷ 8 ∷ 10 ∷ 13 ∷ 15 ∷ 16 ∷ [])
+write-refuses-nothing-else l room = untabled writeTable (5 ∷ 6 ∷ 7 ∷ 8 ∷ 10 ∷ 13 ∷ 15 ∷ 16 ∷ []) (write-refuses-as-tabled l room) tt
+
+-- ---- 11 for its size alone: no sheet from 12 to 32,768 bytes, and no number list whose sheet has at most 32,768
+
+pub sheet-refuses-11-only : (b : List ℕ) → 12 ≤ length b → length b ≤ 32768 → sheetRefusal b ≡ 11 → ⊥
+unfolding sheetRefusal
+sheet-refuses-11-only b least most =
+    let N = u32At b 0 in
+    let table : List ℕ = 4 ∷ 12 ∷ recordTable in
+    let others = among-wider recordTable table (records-among b N 0 (headSize N)) tt in
+    let inside : Among (sheetRefusal b) table =
+    rw (le-leb _ _ least, le-leb _ _ most)
+    (line-among (leb N mostPaths) (among tt)
+    (line-among (leb (headSize N) (length b)) (among tt) (line-among (areLimits (u32At b 4) (u32At b 8)) (among tt) others))) in
+    untabled table (11 ∷ []) inside tt .0
+
+pub list-refuses-11-only : (l : List ℤ) → length (sheetBytes (sheetOf l)) ≤ 32768 → listRefusal l ≡ 11 → ⊥
+unfolding listRefusal
+list-refuses-11-only l fits =
+    let table : List ℕ = 4 ∷ 12 ∷ pathTable in
+    let paths = among-wider pathTable table (paths-among l (numberAt l 0) listHead) tt in
+    let inside : Among (listRefusal l) table =
+    rw (le-leb _ _ fits)
+    (line-among (leb listHead (length l)) (among tt)
+    (line-among (leb (numberAt l 0) mostPaths) (among tt)
+    (line-among (areLimits (numberAt l 1) (numberAt l 2)) (among tt) (first-among (pathsRefusal l (numberAt l 0) listHead) 0 paths (among tt))))) in
+    untabled table (11 ∷ []) inside tt .0
 
 -- ---- a refusal
 

@@ -12,7 +12,7 @@ use lib.ListN.{length}
 use Rattle.rules.specs.Rules.{areLimits}
 use Rattle.rules.proofs.Refusals.{first-stop}
 use Rattle.sheet.specs.Bytes.{u32At}
-use Rattle.sheet.specs.Sheet.{mostBytes, mostPaths, headSize, sheetBytes, sheetNumbers}
+use Rattle.sheet.specs.Sheet.{sheetBytes, sheetNumbers}
 use Rattle.sheet.specs.Records.{recordAt, recordEnd, sheetAt}
 use Rattle.sheet.specs.NumberList.{numberAt, pathAt, pathEnd, sheetOf}
 use Rattle.sheet.specs.Reading.{isOffset, bodyRefusal, recordRefusal, recordsRefusal, sheetRefusal, readRefusal}
@@ -28,27 +28,27 @@ module _ (b : List ℕ) where
   unfolding sheetRefusal
   sheet-refuses-11-under h = rw (lt-leb 12 (length b) h)
 
-  pub sheet-refuses-11-over : mostBytes < length b → sheetRefusal b ≡ 11
+  pub sheet-refuses-11-over : 32768 < length b → sheetRefusal b ≡ 11
   unfolding sheetRefusal
-  sheet-refuses-11-over h = rw (le-leb 12 (length b) (omega arith), lt-leb (length b) mostBytes h)
+  sheet-refuses-11-over h = rw (le-leb 12 (length b) (omega arith), lt-leb (length b) 32768 h)
 
-  module _ (least : 12 ≤ length b) (most : length b ≤ mostBytes) where
-    pub sheet-refuses-12-count : mostPaths < u32At b 0 → sheetRefusal b ≡ 12
+  module _ (least : 12 ≤ length b) (most : length b ≤ 32768) where
+    pub sheet-refuses-12-count : 1024 < u32At b 0 → sheetRefusal b ≡ 12
     unfolding sheetRefusal
-    sheet-refuses-12-count h = rw (le-leb _ _ least, le-leb _ _ most, lt-leb (u32At b 0) mostPaths h)
+    sheet-refuses-12-count h = rw (le-leb _ _ least, le-leb _ _ most, lt-leb (u32At b 0) 1024 h)
 
-    module _ (few : u32At b 0 ≤ mostPaths) where
-      pub sheet-refuses-12-offsets : length b < headSize (u32At b 0) → sheetRefusal b ≡ 12
+    module _ (few : u32At b 0 ≤ 1024) where
+      pub sheet-refuses-12-offsets : length b < 12 + 4 * u32At b 0 → sheetRefusal b ≡ 12
       unfolding sheetRefusal
-      sheet-refuses-12-offsets h = rw (le-leb _ _ least, le-leb _ _ most, le-leb _ _ few, lt-leb (headSize (u32At b 0)) (length b) h)
+      sheet-refuses-12-offsets h = rw (le-leb _ _ least, le-leb _ _ most, le-leb _ _ few, lt-leb (12 + 4 * u32At b 0) (length b) h)
 
-      module _ (offsets : headSize (u32At b 0) ≤ length b) where
+      module _ (offsets : 12 + 4 * u32At b 0 ≤ length b) where
         pub sheet-refuses-4 : areLimits (u32At b 4) (u32At b 8) ≡ false → sheetRefusal b ≡ 4
         unfolding sheetRefusal
         sheet-refuses-4 e = rw (le-leb _ _ least, le-leb _ _ most, le-leb _ _ few, le-leb _ _ offsets, e)
 
         pub sheet-refuses-by-records : areLimits (u32At b 4) (u32At b 8) ≡ true
-            → sheetRefusal b ≡ recordsRefusal b (u32At b 0) 0 (headSize (u32At b 0))
+            → sheetRefusal b ≡ recordsRefusal b (u32At b 0) 0 (12 + 4 * u32At b 0)
         unfolding sheetRefusal
         sheet-refuses-by-records e = rw (le-leb _ _ least, le-leb _ _ most, le-leb _ _ few, le-leb _ _ offsets, e)
 
@@ -93,11 +93,11 @@ module _ (l : List ℤ) where
   list-refuses-17 h = rw (lt-leb 3 (length l) h)
 
   module _ (least : 3 ≤ length l) where
-    pub list-refuses-12 : mostPaths < numberAt l 0 → listRefusal l ≡ 12
+    pub list-refuses-12 : 1024 < numberAt l 0 → listRefusal l ≡ 12
     unfolding listRefusal
-    list-refuses-12 h = rw (le-leb _ _ least, lt-leb (numberAt l 0) mostPaths h)
+    list-refuses-12 h = rw (le-leb _ _ least, lt-leb (numberAt l 0) 1024 h)
 
-    module _ (few : numberAt l 0 ≤ mostPaths) where
+    module _ (few : numberAt l 0 ≤ 1024) where
       pub list-refuses-4 : areLimits (numberAt l 1) (numberAt l 2) ≡ false → listRefusal l ≡ 4
       unfolding listRefusal
       list-refuses-4 e = rw (le-leb _ _ least, le-leb _ _ few, e)
@@ -108,9 +108,9 @@ module _ (l : List ℤ) where
         unfolding listRefusal
         list-refuses-by-paths h = rw (le-leb _ _ least, le-leb _ _ few, limits) (first-stop (pathsRefusal l (numberAt l 0) 3) _ h)
 
-        pub list-refuses-11 : pathsRefusal l (numberAt l 0) 3 ≡ 0 → mostBytes < length (sheetBytes (sheetOf l)) → listRefusal l ≡ 11
+        pub list-refuses-11 : pathsRefusal l (numberAt l 0) 3 ≡ 0 → 32768 < length (sheetBytes (sheetOf l)) → listRefusal l ≡ 11
         unfolding listRefusal
-        list-refuses-11 e h = rw (le-leb _ _ least, le-leb _ _ few, limits, e, lt-leb (length (sheetBytes (sheetOf l))) mostBytes h)
+        list-refuses-11 e h = rw (le-leb _ _ least, le-leb _ _ few, limits, e, lt-leb (length (sheetBytes (sheetOf l))) 32768 h)
 
 module _ (l : List ℤ) (room : ℕ) where
   pub write-refuses-by-list : (listRefusal l ≡ 0 → ⊥) → writeAnswer l room ≡ refusedBy (listRefusal l)

@@ -1,6 +1,6 @@
 -- Demand 2 for sheets, over the answers and the lent buffers: what is accepted is a right sheet, a right sheet is read and written whole,
 -- and so both round trips.
-use mathlib.Core.Path.{_≡_, ap}
+use mathlib.Core.Path.{_≡_, refl, ap}
 use mathlib.Core.List.{List, _++_}
 use Prim.Native.Nat.{ℕ, _≤_}
 use native.Mathlib.Omega.{arith}
@@ -37,8 +37,11 @@ pub right-read : (s : Sheet) (numbers : List ℤ) → Right s → length (sheetN
 unfolding readAnswer readRefusal numbersRead
 right-read s numbers r h = let back = reads-back s r in room-enough numbers (back .1) (ap sheetNumbers (back .0)) h
 
--- into 16,384 numbers, `mostNumbers`, every sheet that keeps its rules is read
-pub room-for-every-sheet : (b : List ℕ) (numbers : List ℤ) → Bytes b → sheetRefusal b ≡ 0 → mostNumbers ≤ length numbers
+-- into 16,384 numbers every sheet that keeps its rules is read
+pub most-numbers : mostNumbers ≡ 16384
+most-numbers = refl
+
+pub room-for-every-sheet : (b : List ℕ) (numbers : List ℤ) → Bytes b → sheetRefusal b ≡ 0 → 16384 ≤ length numbers
     → readAnswer b (length numbers) ≡ wrote (length (sheetNumbers (sheetAt b)))
 room-for-every-sheet b numbers bs e h =
     let only = reads-only b bs e in

@@ -1,13 +1,13 @@
 // Numbers and their 32-bit words, for programs that take and print them.
 ghost use mathlib.Core.Path.{_≡_};
-ghost use Prim.Native.Nat.{_+_, _*_};
 ghost use lib.IntN.{natAbs};
 ghost use mir.Syntax.{w32};
 ghost use mir.Val.{toZ, ofZ};
+ghost use Rattle.words.specs.LittleEndian.{wordOf};
 
 // The word of four bytes, the lowest first.
 pub fn word(b0: u8, b1: u8, b2: u8, b3: u8) -> u32
-    ensures { λ r. ⌜ r ≡ b0 + 256 * b1 + 65536 * b2 + 16777216 * b3 ⌝ }
+    ensures { λ r. ⌜ r ≡ wordOf b0 b1 b2 b3 ⌝ }
 {
     b0 as u32 + 256 * b1 as u32 + 65536 * b2 as u32 + 16777216 * b3 as u32
 }
