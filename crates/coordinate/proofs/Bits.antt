@@ -1,14 +1,15 @@
 -- A register is a number of 32 bits, and every number of 32 bits is one; in numbers, from −2,147,483,648 to 2,147,483,647.
-use mathlib.Core.Path.{_≡_, refl}
-use mathlib.Core.Bool.{Bool, true, false, _&&_, true≢false}
-use Prim.Native.Nat.{ℕ, suc, _<_}
+use mathlib.Core.Path.{_≡_, refl, ap₂}
+use mathlib.Core.Bool.{true, _&&_}
 use native.Mathlib.Omega.{arith}
 use lib.IntN.{ℤ, pos, negsuc}
 use lib.Dec.{leb}
 use mir.Syntax.{w32}
 use mir.Val.{SFits}
-use borrow.Author.Tests.{leb-true, leb-false, le-leb, lt-leb}
-use Rattle.numbers.proofs.Tests.{and-true, and-four, and-false}
+use lib.Signed.{leZ, _≤ℤ_}
+use borrow.Author.Tests.{leb-true, le-leb}
+use Rattle.numbers.proofs.Order.{leZ-true, le-leZ}
+use Rattle.numbers.proofs.Tests.{and-true, and-four}
 use Rattle.coordinate.specs.declared.Registers.{Registers}
 use Rattle.coordinate.specs.Registers.{isRegister, areRegisters}
 
@@ -43,45 +44,37 @@ registers-fit r e =
       d = register-fits (r .d) (t .3);
     }
 
--- ---- 10 by registers: exactly where one of the four is below −2,147,483,648 or above 2,147,483,647
+-- ---- in numbers: each from −2,147,483,648 to 2,147,483,647, and 10 by registers exactly where one is not
 
-pub data Outside : ℤ → Type 0 where
-  below : {n : ℕ} → 2147483648 < suc n → Outside (negsuc n)
-  above : {n : ℕ} → 2147483647 < n → Outside (pos n)
+abbrev pub Within32 : ℤ → Type 0
+Within32 z = (negsuc 2147483647 ≤ℤ z) × (z ≤ℤ pos 2147483647)
 
-pub data OneOutside (r : Registers) : Type 0 where
-  a : Outside (r .a) → OneOutside r
-  b : Outside (r .b) → OneOutside r
-  c : Outside (r .c) → OneOutside r
-  d : Outside (r .d) → OneOutside r
+pub record AllWithin (r : Registers) : Type 0 where
+  pub a : Within32 (r .a)
+  pub b : Within32 (r .b)
+  pub c : Within32 (r .c)
+  pub d : Within32 (r .d)
 
-outside-no-register : {z : ℤ} → Outside z → isRegister z ≡ false
-outside-no-register (below {n} h) = rw (lt-leb n 2147483647 (omega arith)) refl
-outside-no-register (above {n} h) = lt-leb n 2147483647 h
+register-within : (z : ℤ) → isRegister z ≡ true → Within32 z
+register-within z e =
+    let t = and-true (leZ (negsuc 2147483647) z) (leZ z (pos 2147483647)) e in
+    (leZ-true (negsuc 2147483647) z (t .0), leZ-true z (pos 2147483647) (t .1))
 
-no-register-outside : (z : ℤ) → isRegister z ≡ false → Outside z
-no-register-outside (pos n) e = above {n = n} (leb-false n 2147483647 e)
-no-register-outside (negsuc n) e = below {n = n} (by-test (leb n 2147483647) refl e)
-  where
-    by-test : (t : Bool) → leb n 2147483647 ≡ t → (t && true) ≡ false → 2147483648 < suc n
-    by-test true e f = absurd (true≢false f)
-    by-test false e f = omega (arith, leb-false n 2147483647 e)
+within-register : (z : ℤ) → Within32 z → isRegister z ≡ true
+within-register z w = ap₂ _&&_ (le-leZ (w .0)) (le-leZ (w .1))
 
-pub one-outside-refused : {r : Registers} → OneOutside r → areRegisters r ≡ false
+pub registers-within : (r : Registers) → areRegisters r ≡ true → AllWithin r
 unfolding areRegisters
-one-outside-refused (a o) = rw (outside-no-register o) refl
-one-outside-refused (b o) = rw (outside-no-register o, and-false) refl
-one-outside-refused (c o) = rw (outside-no-register o, and-false) refl
-one-outside-refused (d o) = rw (outside-no-register o, and-false) refl
+registers-within r e =
+    let t = and-four (isRegister (r .a)) (isRegister (r .b)) (isRegister (r .c)) (isRegister (r .d)) e in
+    record {
+      a = register-within (r .a) (t .0);
+      b = register-within (r .b) (t .1);
+      c = register-within (r .c) (t .2);
+      d = register-within (r .d) (t .3);
+    }
 
-pub refused-one-outside : (r : Registers) → areRegisters r ≡ false → OneOutside r
+pub within-registers : (r : Registers) → AllWithin r → areRegisters r ≡ true
 unfolding areRegisters
-refused-one-outside r e = first (isRegister (r .a)) (isRegister (r .b)) (isRegister (r .c)) (isRegister (r .d)) refl refl refl refl e
-  where
-    first : (p q s t : Bool) → isRegister (r .a) ≡ p → isRegister (r .b) ≡ q → isRegister (r .c) ≡ s → isRegister (r .d) ≡ t
-        → (p && q && s && t) ≡ false → OneOutside r
-    first false q s t ea eb ec ed e = a (no-register-outside (r .a) ea)
-    first true false s t ea eb ec ed e = b (no-register-outside (r .b) eb)
-    first true true false t ea eb ec ed e = c (no-register-outside (r .c) ec)
-    first true true true false ea eb ec ed e = d (no-register-outside (r .d) ed)
-    first true true true true ea eb ec ed e = absurd (true≢false e)
+within-registers r w = λ i.
+    within-register (r .a) (w .a) i && within-register (r .b) (w .b) i && within-register (r .c) (w .c) i && within-register (r .d) (w .d) i

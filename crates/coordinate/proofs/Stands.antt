@@ -15,7 +15,7 @@ use Rattle.coordinate.specs.Curve.{Curve, curve, exact}
 use Rattle.coordinate.specs.Course.{Course, cubic}
 use Rattle.coordinate.specs.Registers.{isRegister, areRegisters}
 use Rattle.coordinate.specs.Shown.{pixel}
-use Rattle.coordinate.specs.Stands.{Stands}
+use Rattle.coordinate.specs.Stands.{Stands, InNumbers}
 use Rattle.coordinate.proofs.Near.{At, near}
 use Rattle.coordinate.proofs.Sizes.{Tame, sizes}
 use Rattle.coordinate.proofs.Ends.{first-exact, first-shown, last-shown}
@@ -64,20 +64,7 @@ stands F p n j q r h t o =
       shown = shown-size F p n j q r h t o .le;
     }
 
--- ---- at F = 11, in the demand's own numbers
-
--- f(q / 2,048), times 2^33
-abbrev pub exactly : Control → ℕ → ℤ
-exactly p q =
-    let f = curve p in
-    f .A *ℤ pos (q * q * q) +ℤ f .B *ℤ pos (q * q * 2048) +ℤ f .C *ℤ pos (q * 4194304) +ℤ f .D *ℤ pos 8589934592
-
-pub in-numbers : (p : Control) (q : ℕ) (r : Registers) → Stands 11 (cubic p) q r
-    → (areRegisters r ≡ true)
-    × (natAbs (r .d *ℤ pos 8589934592 -ℤ pos 65536 *ℤ exactly p q) < 6144 * 8589934592)
-    × (q ≡ 0 → r .d ≡ pos 65536 *ℤ p .p0)
-    × (q ≡ 0 → pixel r ≡ p .p0)
-    × (q ≡ 2048 → pixel r ≡ p .p3)
-    × (natAbs (pixel r) ≤ 16385)
+pub in-numbers : (p : Control) (q : ℕ) (r : Registers) → Stands 11 (cubic p) q r → InNumbers p q r
 unfolding exact
-in-numbers p q r s = (s .fits, s .near, s .first, s .first-shown, s .last-shown, s .shown)
+in-numbers p q r s =
+    record { fits = s .fits; near = s .near; first = s .first; first-shown = s .first-shown; last-shown = s .last-shown; shown = s .shown }

@@ -10,10 +10,12 @@ use Rattle.rules.specs.Rules.{finest, reach, areLimits}
 use Rattle.coordinate.specs.declared.Control.{Control}
 use Rattle.coordinate.specs.Course.{Course, cubic}
 use Rattle.coordinate.specs.Registers.{Operation, halve, double, areRegisters}
+use Rattle.coordinate.specs.Stands.{InNumbers}
 use Rattle.coordinate.proofs.Points.{extent, reaches}
 use Rattle.coordinate.proofs.Sizes.{Tame}
 use Rattle.coordinate.proofs.Cubic.{cubic-tame}
 use Rattle.coordinate.proofs.Stands.{Bounded, bounded, stands}
+use Rattle.coordinate.proofs.Stands as coordinate
 use Rattle.operations.specs.Coordinates.{Coordinate}
 use Rattle.operations.specs.Refusals.{startRefusal}
 use Rattle.engine.specs.declared.Drawing.{Drawing}
@@ -23,7 +25,7 @@ use Rattle.engine.specs.Start.{firstDrawing, started}
 use Rattle.engine.specs.Choice.{chosen}
 use Rattle.engine.proofs.Accepted.{Accepted, accepted, start-begins}
 use Rattle.distance.specs.Calls.{after, travelled, ruled}
-use Rattle.distance.specs.Demand3.{Fine, Goes, Demand3, InNumbers}
+use Rattle.distance.specs.Demand3.{Fine, Goes, Demand3}
 use Rattle.distance.proofs.Kept.{Kept, kept-inside, kept-fits, kept-turned, call-settled}
 use Rattle.distance.proofs.Calls.{first-kept, after-kept, after-travelled}
 use Rattle.distance.proofs.Back.{double-undoes-halve, halve-undoes-double}
@@ -111,5 +113,4 @@ fine = record { most = lit≤ tt; room = lit≤ tt }
 pub in-numbers : (p : Coordinate → Control) (n : ℕ) → startRefusal 11 p n ≡ 0 → (ops : List Operation) → (c : Coordinate)
     → let there = after 11 ops (started 11 p n .drawing) in InNumbers (p c) (there .q) (of c there)
 in-numbers p n e ops c =
-    let s = demand-3 11 p n fine e ops .stands c in
-    record { fits = s .fits; near = s .near; first = s .first; first-shown = s .first-shown; last-shown = s .last-shown }
+    coordinate.in-numbers (p c) _ _ (demand-3 11 p n fine e ops .stands c)

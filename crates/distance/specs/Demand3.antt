@@ -42,13 +42,3 @@ pub record Demand3 (F : ℕ) (p : Coordinate → Course) (d : Drawing) (along : 
   pub forth : called F double d .refusal ≡ 0 → called F halve (called F double d .drawing) ≡ record { refusal = 0; drawing = d }
   -- the operation that choosing names is never refused
   pub goes : (upper lower : ℕ) → areLimits upper lower ≡ true → d .q < 2 ^ F → Goes F d upper lower
-
--- ---- at F = 11, in the demand's own numbers
-
--- One coordinate. `exact 11 (curve p) q` is A·q³ + B·q²·2^11 + C·q·2^22 + D·2^33.
-pub record InNumbers (p : Control) (q : ℕ) (r : Registers) : Type 0 where
-  pub fits : areRegisters r ≡ true
-  pub near : natAbs (r .d *ℤ pos (2 ^ 33) -ℤ pos 65536 *ℤ exact 11 (curve p) q) < 6144 * 2 ^ 33
-  pub first : q ≡ 0 → r .d ≡ pos 65536 *ℤ p .p0
-  pub first-shown : q ≡ 0 → pixel r ≡ p .p0
-  pub last-shown : q ≡ 2048 → pixel r ≡ p .p3

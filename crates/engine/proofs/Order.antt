@@ -7,9 +7,9 @@ use Rattle.rules.proofs.Refusals.{first-on, first-stop, answers}
 use Rattle.coordinate.specs.declared.Control.{Control}
 use Rattle.coordinate.specs.Course.{cubic}
 use Rattle.coordinate.specs.Registers.{Operation}
+use Rattle.coordinate.proofs.Bits.{AllWithin}
 use Rattle.operations.specs.Coordinates.{Coordinate}
 use Rattle.operations.specs.Refusals.{startRefusal, callRefusal, registersRefusal}
-use Rattle.operations.specs.Lawful.{AllFit}
 use Rattle.operations.proofs.Order.{registers-refuse-10, registers-accepted}
 use Rattle.engine.specs.declared.Drawing.{Drawing}
 use Rattle.engine.specs.declared.Moved.{Moved}
@@ -34,9 +34,9 @@ module _ (F : ℕ) (op : Operation) (d : Drawing) where
     by-registers : firstOf (callRefusal F op (d .level) (d .q)) (registersRefusal (λ c. of c (turned F op d))) ≡ registersRefusal (λ c. of c (turned F op d))
     by-registers = first-on (callRefusal F op (d .level) (d .q)) (registersRefusal (λ c. of c (turned F op d))) let-through
 
-    pub registers-last : (((c : Coordinate) → AllFit (of c (turned F op d))) → ⊥) → called F op d .refusal ≡ 10
+    pub registers-last : (((c : Coordinate) → AllWithin (of c (turned F op d))) → ⊥) → called F op d .refusal ≡ 10
     registers-last h = call-number ∙ by-registers ∙ registers-refuse-10 (λ c. of c (turned F op d)) h
 
-    pub turns : ((c : Coordinate) → AllFit (of c (turned F op d))) → called F op d ≡ record { refusal = 0; drawing = turned F op d }
+    pub turns : ((c : Coordinate) → AllWithin (of c (turned F op d))) → called F op d ≡ record { refusal = 0; drawing = turned F op d }
     unfolding called
     turns h = answers (refused d) _ (by-registers ∙ registers-accepted (λ c. of c (turned F op d)) h)

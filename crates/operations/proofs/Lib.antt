@@ -1,5 +1,4 @@
 pub mod Every
-pub mod Lawful
 pub mod Gates
 pub mod Stays
 pub mod Choice

@@ -12,13 +12,14 @@ use Rattle.coordinate.specs.declared.Registers.{Registers}
 use Rattle.coordinate.specs.declared.Control.{Control}
 use Rattle.coordinate.specs.Points.{areCoordinates, areNear}
 use Rattle.coordinate.specs.Registers.{Operation, halve, double, step, areRegisters}
+use Rattle.coordinate.proofs.Points.{Lying, coordinates-lie, lying-coordinates, Reach, reaches, reaching-near}
+use Rattle.coordinate.proofs.Bits.{AllWithin, registers-within, within-registers}
 use Rattle.operations.specs.Coordinates.{Coordinate, every}
 use Rattle.operations.specs.Position.{isDrawing, isAligned}
 use Rattle.operations.specs.Refusals.{startRefusal, gate, callRefusal, registersRefusal, choiceRefusal}
-use Rattle.operations.specs.Lawful.{AllRanged, AllNear, Inside, Even, AllFit}
+use Rattle.operations.specs.Lawful.{Inside, Even}
 use Rattle.operations.proofs.Every.{every-true, true-every}
 use Rattle.operations.proofs.Gates.{inside, is-drawing}
-use Rattle.operations.proofs.Lawful.{ranged, ranged-tested, near, near-tested, fit, fit-tested}
 
 -- ---- halve, double and step: 10 by level and q, 5, then 6, or 7 then 8
 
@@ -61,42 +62,42 @@ module _ (F n q : ℕ) where
 -- ---- then 10 by registers, exactly where a new register is below −2,147,483,648 or above 2,147,483,647
 
 module _ (new : Coordinate → Registers) where
-  pub registers-refuse-10 : (((c : Coordinate) → AllFit (new c)) → ⊥) → registersRefusal new ≡ 10
+  pub registers-refuse-10 : (((c : Coordinate) → AllWithin (new c)) → ⊥) → registersRefusal new ≡ 10
   unfolding registersRefusal
-  registers-refuse-10 h = rw (broken (every (λ c. areRegisters (new c))) (λ e. h (λ c. fit (new c) (every-true (λ c. areRegisters (new c)) e c))))
+  registers-refuse-10 h = rw (broken (every (λ c. areRegisters (new c))) (λ e. h (λ c. registers-within (new c) (every-true (λ c. areRegisters (new c)) e c))))
 
-  pub registers-accepted : ((c : Coordinate) → AllFit (new c)) → registersRefusal new ≡ 0
+  pub registers-accepted : ((c : Coordinate) → AllWithin (new c)) → registersRefusal new ≡ 0
   unfolding registersRefusal
-  registers-accepted h = rw (true-every (λ c. areRegisters (new c)) (λ c. fit-tested (new c) (h c)))
+  registers-accepted h = rw (true-every (λ c. areRegisters (new c)) (λ c. within-registers (new c) (h c)))
 
 -- ---- a start: 1 over all points of every coordinate, then 2, then 3
 
 module _ (F : ℕ) (p : Coordinate → Control) (n : ℕ) where
-  pub start-refuses-1 : (((c : Coordinate) → AllRanged (p c)) → ⊥) → startRefusal F p n ≡ 1
+  pub start-refuses-1 : (((c : Coordinate) → Lying (p c)) → ⊥) → startRefusal F p n ≡ 1
   unfolding startRefusal
   start-refuses-1 h =
-      rw (broken (every (λ c. areCoordinates (p c))) (λ e. h (λ c. ranged (p c) (every-true (λ c. areCoordinates (p c)) e c))))
+      rw (broken (every (λ c. areCoordinates (p c))) (λ e. h (λ c. coordinates-lie (p c) (every-true (λ c. areCoordinates (p c)) e c))))
 
-  module _ (points : (c : Coordinate) → AllRanged (p c)) where
-    all-ranged : every (λ c. areCoordinates (p c)) ≡ true
-    all-ranged = true-every (λ c. areCoordinates (p c)) (λ c. ranged-tested (p c) (points c))
+  module _ (points : (c : Coordinate) → Lying (p c)) where
+    all-lie : every (λ c. areCoordinates (p c)) ≡ true
+    all-lie = true-every (λ c. areCoordinates (p c)) (λ c. lying-coordinates (p c) (points c))
 
-    pub start-refuses-2 : (((c : Coordinate) → AllNear (p c)) → ⊥) → startRefusal F p n ≡ 2
+    pub start-refuses-2 : (((c : Coordinate) → Reach 682 (p c)) → ⊥) → startRefusal F p n ≡ 2
     unfolding startRefusal
     start-refuses-2 h =
-        rw (all-ranged, broken (every (λ c. areNear reach (p c))) (λ e. h (λ c. near (p c) (every-true (λ c. areNear reach (p c)) e c))))
+        rw (all-lie, broken (every (λ c. areNear reach (p c))) (λ e. h (λ c. reaches 682 (p c) (every-true (λ c. areNear reach (p c)) e c))))
 
-    module _ (steps : (c : Coordinate) → AllNear (p c)) where
+    module _ (steps : (c : Coordinate) → Reach 682 (p c)) where
       all-near : every (λ c. areNear reach (p c)) ≡ true
-      all-near = true-every (λ c. areNear reach (p c)) (λ c. near-tested (p c) (steps c))
+      all-near = true-every (λ c. areNear reach (p c)) (λ c. reaching-near 682 (p c) (steps c))
 
       pub start-refuses-3 : F < n → startRefusal F p n ≡ 3
       unfolding startRefusal isLevel
-      start-refuses-3 h = rw (all-ranged, all-near, broken (leb n F) (λ e. omega (arith, leb-true n F e, h)))
+      start-refuses-3 h = rw (all-lie, all-near, broken (leb n F) (λ e. omega (arith, leb-true n F e, h)))
 
       pub start-accepted : n ≤ F → startRefusal F p n ≡ 0
       unfolding startRefusal isLevel
-      start-accepted h = rw (all-ranged, all-near, le-leb n F h)
+      start-accepted h = rw (all-lie, all-near, le-leb n F h)
 
 -- ---- choosing: 4, 10 by level and q, 5
 
