@@ -33,10 +33,14 @@ pub record Fitting (p q r s : ℤ) : Type 0 where
 abbrev pub Fits32 : Registers → Type 0
 Fits32 r = Fitting (r .a) (r .b) (r .c) (r .d)
 
-pub registers-fit : (r : Registers) → areRegisters r ≡ true → Fits32 r
+each : (r : Registers) → areRegisters r ≡ true
+    → (isRegister (r .a) ≡ true) × (isRegister (r .b) ≡ true) × (isRegister (r .c) ≡ true) × (isRegister (r .d) ≡ true)
 unfolding areRegisters
+each r e = and-four (isRegister (r .a)) (isRegister (r .b)) (isRegister (r .c)) (isRegister (r .d)) e
+
+pub registers-fit : (r : Registers) → areRegisters r ≡ true → Fits32 r
 registers-fit r e =
-    let t = and-four (isRegister (r .a)) (isRegister (r .b)) (isRegister (r .c)) (isRegister (r .d)) e in
+    let t = each r e in
     record {
       a = register-fits (r .a) (t .0);
       b = register-fits (r .b) (t .1);
@@ -64,9 +68,8 @@ within-register : (z : ℤ) → Within32 z → isRegister z ≡ true
 within-register z w = ap₂ _&&_ (le-leZ (w .0)) (le-leZ (w .1))
 
 pub registers-within : (r : Registers) → areRegisters r ≡ true → AllWithin r
-unfolding areRegisters
 registers-within r e =
-    let t = and-four (isRegister (r .a)) (isRegister (r .b)) (isRegister (r .c)) (isRegister (r .d)) e in
+    let t = each r e in
     record {
       a = register-within (r .a) (t .0);
       b = register-within (r .b) (t .1);
