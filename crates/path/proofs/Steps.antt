@@ -9,12 +9,13 @@ use Rattle.engine.specs.declared.Drawing.{Drawing}
 use Rattle.engine.specs.declared.Moved.{Moved}
 use Rattle.engine.specs.Drawing.{turned, called}
 use Rattle.engine.specs.Choice.{chosen}
+use Rattle.engine.specs.Shown.{point}
 use Rattle.distance.proofs.Choice.{choice-answers, chosen-accepted}
 use Rattle.entries.specs.declared.Entry.{Entry}
 use Rattle.path.specs.Path.{Path, pathRefusal, first}
 use Rattle.path.specs.Segment.{Turn, turns}
 use Rattle.path.specs.Entries.{entry, shown, shownBy, rest, following}
-use Rattle.path.specs.Steps.{Goes, afterSteps, inOrder}
+use Rattle.path.specs.Steps.{Goes, afterSteps, shownAt, inOrder}
 use Rattle.path.specs.Listed.{begins}
 use Rattle.path.proofs.Segments.{Of, Sound, fits, begun-first, of-inside, of-next}
 use Rattle.path.proofs.Turns.{along}
@@ -27,15 +28,20 @@ operations ts = map (λ (t : Turn). t .operation) ts
 -- the operations from d on, and their points
 record Walked (F : ℕ) (p : Path) (k : ℕ) (d : Drawing) (ts : List Turn) : Type 0 where
   goes : Goes F (p .upper) (p .lower) d (operations ts)
-  points : shownBy F k ts ≡ map (entry F k) (afterSteps F (operations ts) d)
+  points : shownBy F k ts ≡ map (shownAt F k) (afterSteps F (operations ts) d)
 
 module _ (F : ℕ) (p : Path) (k : ℕ) where
+  -- position 2^F·k + q, x of x and y of y
+  entry-shown : (d : Drawing) → entry F k d ≡ shownAt F k d
+  unfolding entry point
+  entry-shown d = refl
+
   -- a step adds its point, halve and double none
   one-more : (op : Operation) (d : Drawing) (ops : List Operation) (es : List Entry) → called F op d .drawing ≡ turned F op d
-      → es ≡ map (entry F k) (afterSteps F ops (turned F op d)) → shown F k op d ++ es ≡ map (entry F k) (afterSteps F (op ∷ ops) d)
+      → es ≡ map (shownAt F k) (afterSteps F ops (turned F op d)) → shown F k op d ++ es ≡ map (shownAt F k) (afterSteps F (op ∷ ops) d)
   one-more halve d ops es e h = rw e h
   one-more double d ops es e h = rw e h
-  one-more step d ops es e h = rw e (ap (λ (fs : List Entry). entry F k (turned F step d) ∷ fs) h)
+  one-more step d ops es e h = rw e (ap₂ _∷_ (entry-shown (turned F step d)) h)
 
   walked : Sound F p k → (d : Drawing) → Of F p k d → Walked F p k d (turns F (p .upper) (p .lower) d)
   unfolding shownBy
@@ -96,9 +102,9 @@ module _ (F : ℕ) (p : Path) where
     unfolding calls
     calls-go k l = begun-walked k l .goes
 
-    pub following-steps : following F p 0 (p .segments) ≡ inOrder (p .segments) (λ k. map (entry F k) (afterSteps F (calls k) (begins F p k)))
+    pub following-steps : following F p 0 (p .segments) ≡ inOrder (p .segments) (λ k. map (shownAt F k) (afterSteps F (calls k) (begins F p k)))
     unfolding rest calls
     following-steps =
         following-parts (p .segments)
-        ∙ in-order-same (p .segments) part (λ k. map (entry F k) (afterSteps F (calls k) (begins F p k)))
+        ∙ in-order-same (p .segments) part (λ k. map (shownAt F k) (afterSteps F (calls k) (begins F p k)))
         (λ k l. ap (rest F p k) (sym (begun k l)) ∙ begun-walked k l .points)

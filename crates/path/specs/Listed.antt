@@ -20,7 +20,7 @@ use Rattle.entries.specs.Entries.{Among, Linked, lastOf}
 use Rattle.entries.specs.Length.{lengthOf}
 use Rattle.path.specs.Path.{Path, pointAt, place, controls, courses}
 use Rattle.path.specs.Entries.{entry, entries}
-use Rattle.path.specs.Steps.{Goes, afterSteps, inOrder}
+use Rattle.path.specs.Steps.{Goes, afterSteps, shownAt, inOrder}
 
 -- where segment k starts: what the engine's start answers, at the path's start level
 abbrev pub begins : ℕ → Path → ℕ → Drawing
@@ -74,10 +74,10 @@ pub record Listed (F : ℕ) (p : Path) : Type 0 where
   -- each entry stands where the exact curve stands
   pub placed : All (Placed F p) (entries F p)
   pub near : All (Near F p) (entries F p)
-  -- in each segment every chosen operation is accepted; after the start the list has the point after each step, in order, and nothing else
+  -- in each segment every chosen operation is accepted; after the start the list has the point shown after each step, in order, and nothing else
   pub calls : ℕ → List Operation
   pub goes : (k : ℕ) → k < p .segments → Goes F (p .upper) (p .lower) (begins F p k) (calls k)
-  pub steps : after ≡ inOrder (p .segments) (λ k. map (entry F k) (afterSteps F (calls k) (begins F p k)))
+  pub steps : after ≡ inOrder (p .segments) (λ k. map (shownAt F k) (afterSteps F (calls k) (begins F p k)))
   -- at most 2^F points a segment after the start, each at most 1,414 away
   pub count : length (entries F p) ≤ 2 ^ F * p .segments + 1
   pub total : lengthOf (entries F p) ≤ 1414 * (2 ^ F * p .segments)

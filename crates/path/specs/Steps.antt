@@ -1,11 +1,13 @@
--- The points of a segment as a caller of the engine has them: choosing names one operation after another, and after each step there is a point.
+-- The points of a segment as a caller of the engine has them: choosing names one operation after another, and after each step a point is shown.
 use mathlib.Core.Path.{_≡_}
 use mathlib.Core.List.{List, [], _∷_, _++_}
-use Prim.Native.Nat.{ℕ, zero, suc, _^_}
+use Prim.Native.Nat.{ℕ, zero, suc, _+_, _*_, _^_}
+use lib.IntN.{pos}
 use Rattle.coordinate.specs.Registers.{Operation, halve, double, step}
 use Rattle.engine.specs.declared.Drawing.{Drawing}
 use Rattle.engine.specs.Drawing.{called}
 use Rattle.engine.specs.Choice.{says, choice}
+use Rattle.engine.specs.Shown.{point}
 use Rattle.entries.specs.declared.Entry.{Entry}
 
 -- The operations from d on: choosing names each of them and its call is not refused, until drawing stops at q = 2^F.
@@ -21,7 +23,11 @@ afterSteps F (halve ∷ ops) d = afterSteps F ops (called F halve d .drawing)
 afterSteps F (double ∷ ops) d = afterSteps F ops (called F double d .drawing)
 afterSteps F (step ∷ ops) d = called F step d .drawing ∷ afterSteps F ops (called F step d .drawing)
 
--- of m segments, from the first to the last
+-- what is listed of a drawing of segment k: position 2^F·k + q, and the point that the engine shows
+abbrev pub shownAt : ℕ → ℕ → Drawing → Entry
+shownAt F k d = record { position = pos (2 ^ F * k + d .q); x = point d .x; y = point d .y }
+
+-- the lists of m segments, one after another, from the first on
 abbrev pub inOrder : ℕ → (ℕ → List Entry) → List Entry
 inOrder zero part = []
 inOrder (suc m) part = inOrder m part ++ part m
