@@ -6,19 +6,23 @@ use lib.Pow.{pow-pos}
 use lib.IntN.{ℤ, pos, _+ℤ_, _-ℤ_, _*ℤ_}
 use lib.Signed.{_≤ℤ_}
 use Rattle.numbers.proofs.Ring.{#, _:+_, _:-_, _:*_, ring}
-use Rattle.numbers.proofs.Floor.{floor-low, floor-high}
+use Rattle.numbers.proofs.Floor.{floor-low, floor-high, floor-is}
 use Rattle.coordinate.specs.declared.Registers.{Registers}
 use Rattle.coordinate.specs.Curve.{Curve}
 use Rattle.coordinate.specs.Registers.{halve, double, step, turn, startRegisters, _>>_}
 use Rattle.coordinate.proofs.Start.{start-is-whole}
 
--- y is the floor of v / m: m·y ≤ v < m·y + m. There is only one (`floor-is` in numbers/proofs/Floor).
+-- y is the floor of v / m: m·y ≤ v < m·y + m
 pub record Floor (v : ℤ) (m : ℕ) (y : ℤ) : Type 0 where
   pub low : (pos m *ℤ y) ≤ℤ v
   pub high : v ≤ℤ (pos m *ℤ y +ℤ pos m -ℤ pos 1)
 
 pub shift-is-floor : (v : ℤ) (k : ℕ) → Floor v (2 ^ k) (v >> k)
 shift-is-floor v k = record { low = floor-low v (2 ^ k) (pow-pos k); high = floor-high v (2 ^ k) (pow-pos k) }
+
+-- and no other number is
+pub floor-shift : (v : ℤ) (k : ℕ) (y : ℤ) → Floor v (2 ^ k) y → v >> k ≡ y
+floor-shift v k y f = floor-is v y (2 ^ k) (pow-pos k) (f .low) (f .high)
 
 -- what was added to z, and what was taken from it
 added : (z y v : ℤ) (m : ℕ) → Floor v m y → Floor v m (z +ℤ y -ℤ z)

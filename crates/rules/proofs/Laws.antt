@@ -1,7 +1,7 @@
 -- What the rules say of the numbers that they accept.
 use mathlib.Core.Path.{_≡_, refl, ap₂}
 use mathlib.Core.Bool.{true, _&&_}
-use Prim.Native.Nat.{ℕ, _≤_, _<_}
+use Prim.Native.Nat.{ℕ, _+_, _*_, _≤_, _<_}
 use native.Mathlib.Omega.{arith}
 use lib.Dec.{leb, eqb}
 use lib.IntN.{ℤ, pos, negsuc, _-ℤ_}
@@ -55,10 +55,11 @@ hold-limits {upper} {lower} l =
 pub standard-limits : (standardUpper ≡ 65536) × (standardLower ≡ 32768)
 standard-limits = (refl, refl)
 
+-- 1 to 64 segments, and 2(3S + 1) numbers
 pub record Sized (S numbers : ℕ) : Type 0 where
   pub some : 1 ≤ S
-  pub most : S ≤ mostSegments
-  pub size : numbers ≡ pointNumbers S
+  pub most : S ≤ 64
+  pub size : numbers ≡ 2 * (3 * S + 1)
 
 pub size-holds : (S numbers : ℕ) → isSize S numbers ≡ true → Sized S numbers
 unfolding isSize isSegments

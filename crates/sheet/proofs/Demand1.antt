@@ -3,10 +3,10 @@ use mathlib.Core.Path.{_≡_}
 use mathlib.Core.Bool.{Bool}
 use mathlib.Core.List.{List, [], _∷_}
 use Prim.Native.Nat.{ℕ, zero, suc, _+_, _≤_}
+use borrow.Author.Tests.{le-leb}
 use lib.Dec.{leb, eqb}
 use lib.IntN.{ℤ}
 use lib.ListN.{length}
-use borrow.Author.Tests.{le-leb}
 use Rattle.numbers.specs.Tables.{All}
 use Rattle.rules.specs.Refusals.{Among}
 use Rattle.rules.specs.Rules.{finest, reach, isLevel, areLimits, isSegments, headRefusal, arePoints, areChained, pointsRefusal}

@@ -11,7 +11,7 @@ use lib.IntN.{ℤ}
 use lib.ListN.{length}
 use Rattle.rules.specs.Rules.{areLimits}
 use Rattle.rules.proofs.Refusals.{first-stop}
-use Rattle.sheet.specs.Bytes.{u32At}
+use Rattle.sheet.specs.Bytes.{u16At, u32At}
 use Rattle.sheet.specs.Sheet.{sheetBytes, sheetNumbers}
 use Rattle.sheet.specs.Records.{recordAt, recordEnd, sheetAt}
 use Rattle.sheet.specs.NumberList.{numberAt, pathAt, pathEnd, sheetOf}
@@ -64,13 +64,15 @@ module _ (b : List ℕ) (k p : ℕ) where
 
 -- ---- one path, in a sheet and in a number list
 
--- a record at p: 15 for its first four bytes, 14, 3, 15 for its points, then 1 and 2
-pub record-order : (b : List ℕ) (p : ℕ) → PathOrder (bodyRefusal b p) 15 (p + 4) (recordEnd b p) (length b) (recordAt b p)
+-- a record at p: 15 for its first four bytes, 14, 3, 15 for its 3S + 1 points of two bytes in x and in y, then 1 and 2
+pub record-order : (b : List ℕ) (p : ℕ)
+    → PathOrder (bodyRefusal b p) 15 (p + 4) (p + 4 + 2 * (2 * (3 * u16At b p + 1))) (length b) (recordAt b p)
 unfolding bodyRefusal
 record-order b p = rules-in-order 15 (p + 4) (recordEnd b p) (length b) (recordAt b p)
 
--- a path at i: 17 for its first two numbers, 14, 3, 17 for its points, then 1 and 2
-pub path-order : (l : List ℤ) (i : ℕ) → PathOrder (pathRefusal l i) 17 (i + 2) (pathEnd l i) (length l) (pathAt l i)
+-- a path at i: 17 for its first two numbers, 14, 3, 17 for its 3S + 1 points of two numbers, then 1 and 2
+pub path-order : (l : List ℤ) (i : ℕ)
+    → PathOrder (pathRefusal l i) 17 (i + 2) (i + 2 + 2 * (3 * numberAt l i + 1)) (length l) (pathAt l i)
 unfolding pathRefusal
 path-order l i = rules-in-order 17 (i + 2) (pathEnd l i) (length l) (pathAt l i)
 

@@ -5,7 +5,8 @@ use mathlib.Core.List.{List, _++_}
 use Prim.Native.Nat.{ℕ, _≤_}
 use native.Mathlib.Omega.{arith}
 use lib.IntN.{ℤ}
-use lib.ListN.{length, drop}
+use lib.ListN.{length, take, drop}
+use lib.Seq.{take-append-seam, drop-append-seam}
 use Rattle.sheet.specs.Bytes.{Bytes}
 use Rattle.sheet.specs.Sheet.{Sheet, mostNumbers, sheetBytes, sheetNumbers, Right}
 use Rattle.sheet.specs.Records.{sheetAt}
@@ -82,3 +83,21 @@ same-numbers l sheet numbers e h =
     let front : answeredBytes l sheet ≡ sheetBytes (sheetOf l) = front-answered _ sheet written in
     let read = rw (a .1) at (right-read (sheetOf l) numbers (a .0) (rw (a .1) h)) in
     record { answer = rw front (read .0); list = rw front (read .1) }
+
+-- ---- the same, with what stands in front of the lent buffer and what after it
+
+pub read-then-written : (b : List ℕ) (numbers : List ℤ) (sheet : List ℕ) → SameBytes b numbers sheet
+    → let list = take (readAnswer b (length numbers) .count) (numbersRead b numbers) in
+    (writeAnswer list (length sheet) ≡ record { refusal = 0; count = length b })
+    × (take (length b) (bytesWritten list sheet) ≡ b)
+    × (drop (length b) (bytesWritten list sheet) ≡ drop (length b) sheet)
+read-then-written b numbers sheet s =
+    (s .answer, rw (s .bytes) (take-append-seam b (drop (length b) sheet)), rw (s .bytes) (drop-append-seam b (drop (length b) sheet)))
+
+pub written-then-read : (l : List ℤ) (sheet : List ℕ) (numbers : List ℤ) → SameNumbers l sheet numbers
+    → let bytes = take (writeAnswer l (length sheet) .count) (bytesWritten l sheet) in
+    (readAnswer bytes (length numbers) ≡ record { refusal = 0; count = length l })
+    × (take (length l) (numbersRead bytes numbers) ≡ l)
+    × (drop (length l) (numbersRead bytes numbers) ≡ drop (length l) numbers)
+written-then-read l sheet numbers s =
+    (s .answer, rw (s .list) (take-append-seam l (drop (length l) numbers)), rw (s .list) (drop-append-seam l (drop (length l) numbers)))
