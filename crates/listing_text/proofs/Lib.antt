@@ -5,4 +5,5 @@ pub mod Fits
 pub mod Places
 pub mod Whole
 pub mod Refused
+pub mod Numbered
 pub mod Example
