@@ -4,21 +4,18 @@ mod lines;
 mod pieces;
 
 ghost use mathlib.Core.Path.{_≡_};
+ghost use mathlib.Core.Bool.{false};
 ghost use Prim.Native.Nat.{ℕ, _≤_};
-ghost use mathlib.Core.List.{_++_};
 ghost use lib.ListN.{length, take};
-ghost use lib.Seq.{sets};
 ghost use Rattle.sheet.specs.Sheet.{mostNumbers};
 ghost use Rattle.sheet.specs.NumberList.{sheetOf};
 ghost use Rattle.sheet.specs.Reading.{sheetRefusal};
 ghost use Rattle.sheet.specs.Writing.{listRefusal};
-ghost use Rattle.text.specs.Reached.{reached};
-ghost use Rattle.listing_text.specs.Lines.{end, named};
 ghost use Rattle.listing_text.specs.Listing.{sheetText, listing};
 ghost use Rattle.listing_text.specs.Pieces.{segmentNumbers, textSize};
 use libc::STDIN_FILENO;
 use libc::STDOUT_FILENO;
-use lines::put_named;
+use lines::put_line;
 use listing_text::Output;
 use listing_text::Place;
 use listing_text::SEGMENT_NUMBERS;
@@ -27,23 +24,6 @@ use pieces::piece_at;
 use sheet::LIST_HEAD;
 use sheet::MOST_BYTES;
 use sheet::MOST_NUMBERS;
-
-// Room for the longest sheet and a byte more, so that a longer one is seen as such and refused.
-pub fn sheet_buffer() -> [u8; MOST_BYTES + 1]
-    ensures { λ r. ⌜ 32769 ≡ length r ⌝ }
-{
-    [0; MOST_BYTES + 1]
-}
-
-// Reads standard input into a lent buffer, until it is full or the input ends, and prints the listing of what was read: the first n bytes
-// of the buffer as it is left.
-pub fn print_input(sheet: &mut [u8]) -> Output
-    ensures { λ r. ⌜ ((n : ℕ) × (n ≤ length (now (sheet .exit)))
-        × (r .refusal ≡ sheetRefusal (take n (now (sheet .exit)))) × (r .count ≡ length (listing (take n (now (sheet .exit)))))) ⌝ }
-{
-    let n = io::read_full(STDIN_FILENO, sheet);
-    print(&sheet[..n])
-}
 
 // Prints the listing of a sheet. Whether standard output took all of it, `whole`, no contract can say.
 pub fn print(sheet: &[u8]) -> Output
@@ -63,6 +43,23 @@ pub fn print(sheet: &[u8]) -> Output
     }
     let mut list = list_buffer();
     print_paths(&numbers[..answer.count as usize], &mut list, &mut text)
+}
+
+// Reads standard input into a lent buffer, until it is full or the input ends, and prints the listing of what was read: the first n bytes
+// of the buffer as it is left.
+pub fn print_input(sheet: &mut [u8]) -> Output
+    ensures { λ r. ⌜ ((n : ℕ) × (n ≤ length (now (sheet .exit)))
+        × (r .refusal ≡ sheetRefusal (take n (now (sheet .exit)))) × (r .count ≡ length (listing (take n (now (sheet .exit)))))) ⌝ }
+{
+    let n = io::read_full(STDIN_FILENO, sheet);
+    print(&sheet[..n])
+}
+
+// Room for the longest sheet and a byte more, so that a longer one is seen as such and refused.
+pub fn sheet_buffer() -> [u8; MOST_BYTES + 1]
+    ensures { λ r. ⌜ 32769 ≡ length r ⌝ }
+{
+    [0; MOST_BYTES + 1]
 }
 
 // Room for every sheet's numbers.
@@ -108,18 +105,11 @@ fn print_paths(numbers: &[i32], list: &mut [i32], text: &mut [u8]) -> Output
 }
 
 // Hands text over to standard output, unless something before it was not taken, and answers whether all was taken.
-fn hand_over(text: &[u8], whole: bool) -> bool {
+fn hand_over(text: &[u8], whole: bool) -> bool
+    ensures { λ r. ⌜ (whole ≡ false → r ≡ false) ⌝ }
+{
     if whole {
         return io::write_all(STDOUT_FILENO, text);
     }
     false
-}
-
-// A line of one word and its number, from the front of `text` on.
-fn put_line(word: &[u8], n: u32, text: &mut [u8]) -> usize
-    ensures { λ r. ⌜ r ≡ reached (now (text .entry)) 0 (named (now (word .entry)) n ++ end) ⌝ }
-    ensures { λ _. ⌜ now (text .exit) ≡ sets (now (text .entry)) 0 (named (now (word .entry)) n ++ end) ⌝ }
-{
-    let at = put_named(word, n, text, 0);
-    text::put(text, at, b"\n")
 }

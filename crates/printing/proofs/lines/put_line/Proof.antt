@@ -1,8 +1,8 @@
 -- The word with its number, and the end of the line.
 use Rattle.text.proofs.Pieces.{put-both}
 use borrow.Author.Needs.{needs}
-use Rattle.printing.proofs.put_line.Statement.{statement}
-use Rattle.printing.proofs.put_line.Tie as tie
+use Rattle.printing.proofs.lines.put_line.Statement.{statement}
+use Rattle.printing.proofs.lines.put_line.Tie as tie
 
 put-named-requires : tie.Need-put-named-requires
 put-named-requires c κs = search needs
