@@ -1,5 +1,6 @@
 -- Two sheets and their texts. Document 01's own fixes the words of the lines, the order of the numbers, and the places of the entries; the second
--- what it leaves open: limits, start levels and numbers of several paths, a join, and numbers below 0.
+-- what it leaves open: the limits, start levels and numbers of several paths, a join, and numbers below 0. The line of a refused sheet is in
+-- proofs/Refused.
 use mathlib.Core.Path.{_≡_, refl}
 use mathlib.Core.List.{List, [], _∷_}
 use Prim.Native.Nat.{ℕ}
