@@ -3,11 +3,14 @@
     python3 tests/door.py
 
 First the script of this repository, with the program that the kit builds: it
-is built where it is missing. Then a copy of the script with a kit that only
+is built where it is missing. Where a listing is not taken whole, the program
+is tried by itself too. Then a copy of the script with a kit that only
 pretends: its rt and its loader are small scripts, so that builds and programs
 can fail. The last line is 'N passed, N failed'.
 """
 import os
+import resource
+import signal
 import subprocess
 import sys
 import tempfile
@@ -20,6 +23,7 @@ from makers import sheet, zigzag
 from model.constants import MOST_SEGMENTS
 from model.listing import listing
 from pretence import SCRIPT, Pretence, run
+from programs import program_command
 from spoilt import two_of_each
 from tally import Tally
 
@@ -27,6 +31,8 @@ EXAMPLES = ROOT / "examples"
 ACCEPTED = ["document", "empty", "letters", "paths", "slow-start", "spiral"]
 INSTALLERS = "apt apt-get apk brew dnf pacman pip3 sudo yum zypper".split()
 DOCUMENT = LISTING.encode()
+LONG = sheet(zigzag(MOST_SEGMENTS, 0, 600, 0))      # its listing is too long for a pipe
+FRONT = 100_000                                     # bytes of it that a short file has room for
 
 
 class Answers(Tally):
@@ -105,13 +111,69 @@ def test_mistakes(tally, room):
     tally.holds("--help tells", all(word in told.stdout for word in [b"./list FILE", b"--svg", b"Exit status"]))
 
 
+# Where a listing is not taken whole
+
+def close_output():
+    os.close(1)
+
+
+def ignore_pipes():
+    signal.signal(signal.SIGPIPE, signal.SIG_IGN)
+
+
+def limit_files():
+    """A longer file is refused, as by a full disk, and no signal ends the writer."""
+    signal.signal(signal.SIGXFSZ, signal.SIG_IGN)
+    resource.setrlimit(resource.RLIMIT_FSIZE, (FRONT, FRONT))
+
+
+def end_of(words, prepare=None, output=subprocess.DEVNULL, data=LONG):
+    """Status and standard error of a run whose standard output is prepared so."""
+    ended = subprocess.run(words, input=data, stdout=output, stderr=subprocess.PIPE, preexec_fn=prepare, restore_signals=False)
+    return ended.returncode, ended.stderr.decode()
+
+
+def closed_pipe():
+    """Standard output whose reader has gone away."""
+    read, write = os.pipe()
+    os.close(read)
+    return write
+
+
+def untaken(room):
+    """Each way in which standard output does not take all: its name, how it is prepared, the output."""
+    full, short, pipe = open("/dev/full", "wb"), open(room / "short", "wb"), closed_pipe()
+    return [("a full disk", None, full), ("a disk that fills up", limit_files, short), ("no standard output", close_output, None),
+            ("a closed pipe", ignore_pipes, pipe)]
+
+
+def test_not_taken(tally, room):
+    """The program says so on standard error, and the script ends by a status that is not 0."""
+    program = program_command("listing")
+    said = "listing: standard output did not take the whole listing\n"
+    tally.equal("the program, taken whole", end_of(program), (0, ""))
+    for name, prepare, output in untaken(room):
+        tally.equal(f"the program, {name}", end_of(program, prepare, output), (0, said))
+        if name != "a disk that fills up":
+            tally.equal(f"the program, {name}, a refused sheet", end_of(program, prepare, output, b""), (0, said))
+    front = (room / "short").read_bytes()
+    tally.equal("what was taken", front, listing(LONG).encode()[:FRONT])
+    for name, prepare, output in untaken(room):
+        status, complaint = end_of([str(SCRIPT)], prepare, output)
+        words = "standard output is closed" if output is None else "could not be passed on whole"
+        tally.equal(f"the script, {name}", (status, words in complaint), (2, True))
+    tally.equal("what was passed on", (room / "short").read_bytes(), front)
+
+
 def test_reader_goes_away(tally, room):
-    """A listing that is too long for a pipe, of which only the first line is read."""
-    (room / "long").write_bytes(sheet(zigzag(MOST_SEGMENTS, 0, 600, 0)))
+    """Only the first line of a long listing is read."""
+    (room / "long").write_bytes(LONG)
     with subprocess.Popen([str(SCRIPT), str(room / "long")], stdout=subprocess.PIPE, stderr=subprocess.PIPE) as running:
         first = running.stdout.readline()
         running.stdout.close()
-        tally.equal("a reader that goes away", (first, running.stderr.read()), (b"paths 1\n", b""))
+        complaint = running.stderr.read()
+    tally.equal("a reader that goes away", (first, running.returncode), (b"paths 1\n", 128 + signal.SIGPIPE))
+    tally.holds("is told of", b"could not be passed on whole" in complaint)
 
 
 # A copy of the script with a kit that only pretends
@@ -177,6 +239,7 @@ def test_program(tally, room):
         ("fails", "echo paths 1; exit 3", 2, b"paths 1\n", "status 3"),
         ("is killed", "echo paths 1; kill -9 $$", 2, b"paths 1\n", "status 137"),
         ("prints nothing", "true", 2, b"", "printed nothing"),
+        ("complains", "echo paths 0; echo a complaint >&2", 2, b"paths 0\n", "a complaint\nlist: the program failed"),
         ("prints something else", "echo hello", 2, b"hello\n", "no listing"),
         ("refuses by a new number", "echo refused 99", 1, b"refused 99\n", "(refusal 99)."),
     ]:
@@ -189,7 +252,7 @@ def main():
     run(SCRIPT, EXAMPLES / "empty.sheet")       # builds the program
     for test in [test_examples, test_document, test_refusals]:
         test(tally)
-    for test in [test_names, test_mistakes, test_reader_goes_away, test_build, test_kit, test_no_python, test_program]:
+    for test in [test_names, test_mistakes, test_not_taken, test_reader_goes_away, test_build, test_kit, test_no_python, test_program]:
         with tempfile.TemporaryDirectory() as room:
             test(tally, Path(room))
     return tally.end()

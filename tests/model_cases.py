@@ -3,11 +3,13 @@
     python3 tests/model_cases.py
 
 Every expected number was reckoned by hand or is the document's. Beside them,
-random drawings are held to the exact curve.
+random drawings are held to the exact curve, and listings to those that are
+proved.
 """
+import re
 import sys
 
-import above  # noqa: F401
+from above import ROOT
 from boundaries import CASES as BOUNDARIES
 from document_cases import CASES, LISTING, SHEET, SHEET_NUMBERS
 from exact_curve import check_distance, check_start
@@ -18,8 +20,8 @@ from model.drawing import (DOUBLE, HALVE, STEP, ZEROS, choose, operate, shown,
                            start)
 from model.listing import listing
 from model.path import draw, measure
-from model.points import flat, numbers_in, points_in
-from model.sheet import read_sheet, write_sheet
+from model.points import Point, flat, numbers_in, points_in
+from model.sheet import read_sheet, sheet_bytes, write_sheet
 from places import COUNT, UPPER, offset, put, swap
 from probe_model import answered
 from probe_protocol import request
@@ -64,6 +66,28 @@ def check_document(tally):
 def check_boundaries(tally):
     for what, name, words, begun in BOUNDARIES:
         tally.holds(what, answered(request(name, words))[0].startswith(begun))
+
+
+# The two listings that are proved
+
+PROVED = ROOT / "crates" / "listing_text" / "proofs" / "Example.antt"
+
+SECOND_PATHS = [(4, [(0, -1), (-2, 1), (0, -1), (-2, 0), (-2, -1), (-2, 0), (-2, -1)]),
+                (2, [(1, 1), (0, 2), (2, 1), (0, 2)])]
+
+
+def proved_bytes(name):
+    """The list of this name, as it stands in the proof."""
+    rows = re.search(rf"^{name} =\n((?: .*\n)+)", PROVED.read_text("utf-8"), re.M)
+    return bytes(map(int, re.findall(r"\d+", rows[1])))
+
+
+def check_proved(tally):
+    paths = [(level, [Point(*each) for each in points]) for level, points in SECOND_PATHS]
+    second = sheet_bytes(60_000, 26_000, paths)
+    tally.equal("the second sheet", proved_bytes("secondBytes"), second)
+    tally.equal("its proved listing", proved_bytes("secondText"), listing(second).encode())
+    tally.equal("the proved listing of A", proved_bytes("documentText"), LISTING.encode())
 
 
 # Drawings
@@ -215,9 +239,9 @@ def check_spoilt(tally):
 def main():
     tally = Tally()
     for check in (check_numbers, check_document, check_boundaries,
-                  check_choosing, check_edges, check_start, check_paths,
-                  check_path_order, check_reading, check_writing,
-                  check_spoilt, check_distance):
+                  check_proved, check_choosing, check_edges, check_start,
+                  check_paths, check_path_order, check_reading,
+                  check_writing, check_spoilt, check_distance):
         check(tally)
     sys.exit(tally.end())
 

@@ -14,7 +14,7 @@ import kept
 from above import ROOT
 from boundaries import CASES as BOUNDARIES
 from document_cases import CASES, LISTING, SHEET
-from listing_cases import gate_sheets
+from listing_cases import TOO_LONG, gate_sheets
 from model.listing import listing
 from probe_model import answered, missing
 from probe_protocol import packed, request
@@ -25,6 +25,8 @@ EACH = 10               # requests of each outcome
 SMALL = 5_000           # bytes of a request and its answer
 TRIED = 4_000           # requests that they are picked from
 LARGE = {("write", 11)}  # outcomes that no small request has
+
+TO_THE_END = -1         # the size of a sheet that goes on to the end of the input
 
 
 def joined(lines):
@@ -91,10 +93,11 @@ def listing_files():
 
 
 def listing_cases_files():
-    """Each sheet after its length."""
+    """Each sheet after its length, and last one that the end of the input ends."""
     sheets = gate_sheets()
     stdin = b"".join(packed([len(data)]) + data for data in sheets)
-    return stdin, "".join(map(listing, sheets)).encode()
+    stdin += packed([TO_THE_END]) + TOO_LONG
+    return stdin, "".join(map(listing, [*sheets, TOO_LONG])).encode()
 
 
 def stored_files():

@@ -1,10 +1,14 @@
-// Lists the sheet on standard input.
-use libc::STDIN_FILENO;
-use sheet::MOST_BYTES;
+// Lists the sheet on standard input. A program has no exit status of its own: where standard output did not take the whole listing, standard
+// error says so.
+use libc::STDERR_FILENO;
 
-// One byte more than a sheet has is asked for, so that a longer one is seen as such and refused.
 fn main() {
-    let mut sheet = [0u8; MOST_BYTES + 1];
-    let count = io::read_full(STDIN_FILENO, &mut sheet);
-    printing::print(&sheet[..count]);
+    let mut sheet = printing::sheet_buffer();
+    let output = printing::print_input(&mut sheet);
+    if !output.whole {
+        io::write_all(
+            STDERR_FILENO,
+            b"listing: standard output did not take the whole listing\n",
+        );
+    }
 }

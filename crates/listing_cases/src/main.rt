@@ -1,14 +1,10 @@
-// Lists several sheets, one after another, as the program `listing` lists one. Standard input has for each its size, in four bytes with the
-// lowest first, and then its bytes. tests/stored.py makes the sheets and their text.
-ghost use mathlib.Core.Path.{_≡_};
-ghost use Prim.Native.Nat.{_+_, _≤_};
-ghost use lib.ListN.{length};
-ghost use Rattle.sheet.specs.Sheet.{mostBytes};
+// Lists several sheets, one after another. Standard input has for each its size, in four bytes with the lowest first, and then its bytes. After a
+// size of 4,294,967,295 the rest of the input is a sheet, read and listed as the program `listing` does it. tests/stored.py makes the sheets and
+// their text.
 use libc::STDIN_FILENO;
-use sheet::MOST_BYTES;
 
-// As many bytes as `listing` asks for.
-const MOST: usize = MOST_BYTES + 1;
+// The size before the last sheet, which ends where the input does.
+const TO_THE_END: u32 = 4294967295;
 
 // A proved loop has to end, and nothing says that the input does: no run has so many sheets.
 fn main() {
@@ -24,26 +20,22 @@ fn list_next() -> bool {
     if io::read_full(STDIN_FILENO, &mut head) < 4 {
         return false;
     }
-    let size = words::word(head[0], head[1], head[2], head[3]) as usize;
-    if MOST < size {
+    let size = words::word(head[0], head[1], head[2], head[3]);
+    let mut sheet = printing::sheet_buffer();
+    if size == TO_THE_END {
+        printing::print_input(&mut sheet);
         return false;
     }
-    let mut sheet = sheet_buffer();
-    list_sheet(&mut sheet, size)
+    list_sheet(&mut sheet, size as usize)
 }
 
-fn list_sheet(sheet: &mut [u8], size: usize) -> bool
-    requires { ⌜ size ≤ length (now sheet) ⌝ }
-{
+fn list_sheet(sheet: &mut [u8], size: usize) -> bool {
+    if sheet.len() < size {
+        return false;
+    }
     if io::read_full(STDIN_FILENO, &mut sheet[..size]) < size {
         return false;
     }
     printing::print(&sheet[..size]);
     true
-}
-
-fn sheet_buffer() -> [u8; MOST]
-    ensures { λ r. ⌜ mostBytes + 1 ≡ length r ⌝ }
-{
-    [0; MOST]
 }

@@ -1,4 +1,6 @@
--- Document 01's own sheet and its text: they fix the words of the lines, the order of the numbers, and the places of the entries.
+-- Two sheets and their texts. Document 01's own fixes the words of the lines, the order of the numbers, and the places of the entries; the second
+-- what it leaves open: the limits, start levels and numbers of several paths, a join, and numbers below 0. The line of a refused sheet is in
+-- proofs/Refused.
 use mathlib.Core.Path.{_≡_, refl}
 use mathlib.Core.List.{List, [], _∷_}
 use Prim.Native.Nat.{ℕ}
@@ -44,10 +46,69 @@ documentText =
     ∷ 50 ∷ 48 ∷ 52 ∷ 56 ∷ 32 ∷ 51 ∷ 32 ∷ 48 ∷ 10
     ∷ []
 
-pub document-listing : listing documentBytes ≡ documentText
+-- Two paths under the limits 60,000 and 26,000: one of two segments from level 4, and one of one segment from level 2. Its bytes and its text are those
+-- of the model in model/, which was written from the document alone. In hex: 02000000 60ea0000 90650000, the count and the limits; 14000000 34000000, the
+-- offsets; 02000400 and the points 0000ffff feff0100 0000ffff feff0000 feffffff feff0000 feffffff; 01000200 and 01000100 00000200 02000100 00000200.
+abbrev pub secondBytes : List ℕ
+secondBytes =
+    2 ∷ 0 ∷ 0 ∷ 0 ∷ 96 ∷ 234 ∷ 0 ∷ 0 ∷ 144 ∷ 101 ∷ 0 ∷ 0
+    ∷ 20 ∷ 0 ∷ 0 ∷ 0 ∷ 52 ∷ 0 ∷ 0 ∷ 0
+    ∷ 2 ∷ 0 ∷ 4 ∷ 0
+    ∷ 0 ∷ 0 ∷ 255 ∷ 255 ∷ 254 ∷ 255 ∷ 1 ∷ 0 ∷ 0 ∷ 0 ∷ 255 ∷ 255 ∷ 254 ∷ 255 ∷ 0 ∷ 0 ∷ 254 ∷ 255 ∷ 255 ∷ 255 ∷ 254 ∷ 255 ∷ 0 ∷ 0 ∷ 254 ∷ 255 ∷ 255 ∷ 255
+    ∷ 1 ∷ 0 ∷ 2 ∷ 0
+    ∷ 1 ∷ 0 ∷ 1 ∷ 0 ∷ 0 ∷ 0 ∷ 2 ∷ 0 ∷ 2 ∷ 0 ∷ 1 ∷ 0 ∷ 0 ∷ 0 ∷ 2 ∷ 0
+    ∷ []
+
+-- paths 2
+-- path 0 points 9 length 3414
+-- 0 0 -1
+-- 256 -1 0
+-- 512 -1 0
+-- 1024 -1 0
+-- 1536 -1 0
+-- 2048 -2 0
+-- 2560 -2 0
+-- 3072 -2 0
+-- 4096 -2 -1
+-- path 1 points 4 length 2000
+-- 0 1 1
+-- 512 1 1
+-- 1024 1 2
+-- 2048 0 2
+abbrev pub secondText : List ℕ
+secondText =
+    112 ∷ 97 ∷ 116 ∷ 104 ∷ 115 ∷ 32 ∷ 50 ∷ 10
+    ∷ 112 ∷ 97 ∷ 116 ∷ 104 ∷ 32 ∷ 48
+    ∷ 32 ∷ 112 ∷ 111 ∷ 105 ∷ 110 ∷ 116 ∷ 115 ∷ 32 ∷ 57
+    ∷ 32 ∷ 108 ∷ 101 ∷ 110 ∷ 103 ∷ 116 ∷ 104 ∷ 32 ∷ 51 ∷ 52 ∷ 49 ∷ 52 ∷ 10
+    ∷ 48 ∷ 32 ∷ 48 ∷ 32 ∷ 45 ∷ 49 ∷ 10
+    ∷ 50 ∷ 53 ∷ 54 ∷ 32 ∷ 45 ∷ 49 ∷ 32 ∷ 48 ∷ 10
+    ∷ 53 ∷ 49 ∷ 50 ∷ 32 ∷ 45 ∷ 49 ∷ 32 ∷ 48 ∷ 10
+    ∷ 49 ∷ 48 ∷ 50 ∷ 52 ∷ 32 ∷ 45 ∷ 49 ∷ 32 ∷ 48 ∷ 10
+    ∷ 49 ∷ 53 ∷ 51 ∷ 54 ∷ 32 ∷ 45 ∷ 49 ∷ 32 ∷ 48 ∷ 10
+    ∷ 50 ∷ 48 ∷ 52 ∷ 56 ∷ 32 ∷ 45 ∷ 50 ∷ 32 ∷ 48 ∷ 10
+    ∷ 50 ∷ 53 ∷ 54 ∷ 48 ∷ 32 ∷ 45 ∷ 50 ∷ 32 ∷ 48 ∷ 10
+    ∷ 51 ∷ 48 ∷ 55 ∷ 50 ∷ 32 ∷ 45 ∷ 50 ∷ 32 ∷ 48 ∷ 10
+    ∷ 52 ∷ 48 ∷ 57 ∷ 54 ∷ 32 ∷ 45 ∷ 50 ∷ 32 ∷ 45 ∷ 49 ∷ 10
+    ∷ 112 ∷ 97 ∷ 116 ∷ 104 ∷ 32 ∷ 49
+    ∷ 32 ∷ 112 ∷ 111 ∷ 105 ∷ 110 ∷ 116 ∷ 115 ∷ 32 ∷ 52
+    ∷ 32 ∷ 108 ∷ 101 ∷ 110 ∷ 103 ∷ 116 ∷ 104 ∷ 32 ∷ 50 ∷ 48 ∷ 48 ∷ 48 ∷ 10
+    ∷ 48 ∷ 32 ∷ 49 ∷ 32 ∷ 49 ∷ 10
+    ∷ 53 ∷ 49 ∷ 50 ∷ 32 ∷ 49 ∷ 32 ∷ 49 ∷ 10
+    ∷ 49 ∷ 48 ∷ 50 ∷ 52 ∷ 32 ∷ 49 ∷ 32 ∷ 50 ∷ 10
+    ∷ 50 ∷ 48 ∷ 52 ∷ 56 ∷ 32 ∷ 48 ∷ 32 ∷ 50 ∷ 10
+    ∷ []
+
+pub listings : (listing documentBytes ≡ documentText) × (listing secondBytes ≡ secondText)
 unfolding listing sheetText pathsText pathText pathsLine pathLine entryLine entryLines named followed decimal decimalIn numeral sheetAt recordsAt
     recordAt valuesAt sheetRefusal recordsRefusal recordRefusal bodyRefusal isOffset pathRules headRefusal pointsRefusal measured
     pathRefusal isSegments isSize arePoints areChained areBeside isCoordinate areNeighbours isLevel areLimits entries following rest shownBy
     entry turns turnsIn choose wantsHalve wantsDouble increment doubledIncrement isAligned turned turn pixel first control pointAt
     startRegisters curve moveLength lengthFrom lengthOf
-document-listing = refl
+listings = (refl, refl)
+
+pub document-listing : listing documentBytes ≡ documentText
+document-listing = listings .0
+
+pub second-listing : listing secondBytes ≡ secondText
+second-listing = listings .1

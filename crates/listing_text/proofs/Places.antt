@@ -1,5 +1,5 @@
 -- The pieces of accepted paths: their places, one after another, and their text, which is that of the paths.
-use mathlib.Core.Path.{_≡_, refl, ap}
+use mathlib.Core.Path.{_≡_, refl, sym, ap, ap₂, _∙_}
 use mathlib.Core.Bool.{true}
 use mathlib.Core.List.{List, [], _∷_, _++_, append-assoc}
 use Prim.Native.Nat.{ℕ, zero, suc, _+_, _*_, _≤_, _<_}
@@ -71,7 +71,13 @@ module _ (l : List ℤ) (i at k : ℕ) where
   unfolding nextPlace
   next-path e h = rw (le-ltb (k + 1) (numberAt l at) (omega arith), min-eq-left h)
 
--- ---- they are visited one after another
+-- ---- they are visited one after another, and no others
+
+pub visits-only : (l : List ℤ) (N : ℕ) (q : Place) (vs ws : List Place) → Visits l N q vs → Visits l N q ws → vs ≡ ws
+visits-only l N q [] [] v w = refl
+visits-only l N q [] (y ∷ ws) v w = absurd (omega (arith, v, w .1))
+visits-only l N q (x ∷ vs) [] v w = absurd (omega (arith, v .1, w))
+visits-only l N q (x ∷ vs) (y ∷ ws) v w = ap₂ (λ p ps. p ∷ ps) (sym (v .0) ∙ w .0) (visits-only l N (nextPlace l q) vs ws (v .2) (w .2))
 
 segments-visited : (l : List ℤ) (N i at m k : ℕ) (qs : List Place) → numberAt l at ≡ k + suc m → pathEnd l at ≤ length l → i < N
     → Visits l N (place (i + 1) (pathEnd l at) 0) qs → Visits l N (place i at k) (segmentPlaces i at k (suc m) ++ qs)

@@ -1,7 +1,7 @@
--- A refused sheet is listed by one line, which is not cut: reading into room for every sheet refuses by the sheet alone.
-use mathlib.Core.Path.{_≡_, sym, ap, _∙_}
+-- A refused sheet is listed by one line, "refused R", which is not cut: reading into room for every sheet refuses by the sheet alone.
+use mathlib.Core.Path.{_≡_, refl, sym, ap, _∙_}
 use mathlib.Core.Bool.{true, false}
-use mathlib.Core.List.{List}
+use mathlib.Core.List.{List, [], _∷_, _++_, map}
 use Prim.Native.Nat.{ℕ, suc, _≤_}
 use native.Mathlib.Omega.{arith}
 use lib.Dec.{leb, eqb, leb→le}
@@ -21,7 +21,8 @@ use Rattle.sheet.specs.Answer.{readTable, readAnswer}
 use Rattle.sheet.proofs.Room.{room-refused}
 use Rattle.sheet.proofs.RoundTrips.{room-for-every-sheet}
 use Rattle.sheet.proofs.Demand1.{read-refuses-as-tabled}
-use Rattle.listing_text.specs.Lines.{refusedLine}
+use Rattle.text.specs.Decimal.{decimalIn, decimal}
+use Rattle.listing_text.specs.Lines.{named, refusedLine}
 use Rattle.listing_text.specs.Listing.{listing}
 use Rattle.listing_text.specs.Pieces.{textSize}
 use Rattle.listing_text.specs.Printed.{Uncut}
@@ -51,7 +52,26 @@ refused-short b k bs e =
     let small = tested (λ n. n ≤ 17) (λ n. leb n 17) (λ n t. leb→le n 17 t) readTable tt in
     refused-line-short (suc k) (among-all (λ n. n ≤ 17) (suc k) readTable small tabled)
 
+-- its listing is the one line
+pub refused-listed : (b : List ℕ) (k : ℕ) → sheetRefusal b ≡ suc k → listing b ≡ refusedLine (suc k)
+unfolding listing
+refused-listed b k e = rw e
+
 pub printed-refused : (b : List ℕ) (k : ℕ) → Bytes b → sheetRefusal b ≡ suc k
     → (listing b ≡ refusedLine (suc k)) × Uncut (refusedLine (suc k))
-unfolding listing
-printed-refused b k bs e = (rw e, uncut _ (refused-short b k bs e))
+printed-refused b k bs e = (refused-listed b k e, uncut _ (refused-short b k bs e))
+
+-- ---- its words
+
+-- "refused ", the digits, and the end of the line
+abbrev refusedText : List ℕ → List ℕ
+refusedText digits = 114 ∷ 101 ∷ 102 ∷ 117 ∷ 115 ∷ 101 ∷ 100 ∷ 32 ∷ (digits ++ (10 ∷ []))
+
+-- of each number by which a sheet may be refused: `readTable` of sheet without 9, which is of the room
+pub refused-texts : map refusedLine (1 ∷ 2 ∷ 3 ∷ 4 ∷ 11 ∷ 12 ∷ 13 ∷ 14 ∷ 15 ∷ 16 ∷ [])
+    ≡ map refusedText (
+    (49 ∷ []) ∷ (50 ∷ []) ∷ (51 ∷ []) ∷ (52 ∷ [])
+    ∷ (49 ∷ 49 ∷ []) ∷ (49 ∷ 50 ∷ []) ∷ (49 ∷ 51 ∷ []) ∷ (49 ∷ 52 ∷ []) ∷ (49 ∷ 53 ∷ []) ∷ (49 ∷ 54 ∷ []) ∷ []
+    )
+unfolding refusedLine named decimal decimalIn
+refused-texts = refl

@@ -10,7 +10,6 @@ use Rattle.path.specs.Answer.{measured}
 use Rattle.sheet.specs.Sheet.{Target, Sheet}
 use Rattle.sheet.specs.Records.{sheetAt}
 use Rattle.sheet.specs.Reading.{sheetRefusal}
-use Rattle.listing_text.specs.declared.Output.{Output}
 use Rattle.listing_text.specs.Lines.{pathsLine, pathLine, entryLines, refusedLine}
 
 -- a path of a sheet, under the sheet's limits
@@ -31,7 +30,3 @@ sheetText s = pathsLine (length (s .paths)) ++ pathsText s 0 (s .paths)
 -- the listing of the bytes of standard input
 unfoldable pub listing : List ℕ → List ℕ
 listing b = refusalOr (sheetRefusal b) refusedLine (sheetText (sheetAt b))
-
--- what printing it answers: by what number the sheet is refused, and how many bytes were printed
-unfoldable pub output : List ℕ → Output
-output b = record { refusal = sheetRefusal b; count = length (listing b) }

@@ -3,10 +3,11 @@
 // A segment has at most 2^FINEST + 1 entries: the numbers of its list.
 pub const SEGMENT_NUMBERS: usize = entries::ENTRY_SIZE * ((1 << rules::FINEST) + 1);
 
-// What was printed: by what number the sheet is refused, 0 for none, and how many bytes.
+// What was printed: by what number the sheet is refused, 0 for none; how many bytes its listing has; and whether standard output took them all.
 pub struct Output {
     pub refusal: u32,
     pub count: usize,
+    pub whole: bool,
 }
 
 // Where a listing stands: path `path` is next, its numbers start at number `at`, and of its segments `segment` is next.

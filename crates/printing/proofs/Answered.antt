@@ -19,8 +19,8 @@ use Rattle.sheet.proofs.RoundTrips.{read-accepted, right-read}
 use Rattle.text.specs.Reached.{reached}
 use Rattle.listing_text.specs.Lines.{refusedWord, end, named, refusedLine}
 use Rattle.listing_text.specs.Pieces.{textSize}
-use Rattle.listing_text.specs.Listing.{sheetText, listing, output}
-use Rattle.listing_text.proofs.Refused.{refused-by-the-sheet, refused-short}
+use Rattle.listing_text.specs.Listing.{sheetText, listing}
+use Rattle.listing_text.proofs.Refused.{refused-by-the-sheet, refused-short, refused-listed}
 use Rattle.printing.proofs.Coming.{all-of}
 
 module _
@@ -53,20 +53,22 @@ module _
       pub numbers-accepted : (listRefusal (take (w .count) after) ≡ 0) × (length (take (w .count) after) ≤ mostNumbers)
       numbers-accepted = rw numbers-taken (writes-back (sheetAt b) (right .0) .1, omega (arith, right .2, room))
 
-      pub accepted-output : {count : ℕ} → count ≡ length (sheetText (sheetOf (take (w .count) after)))
-          → record { refusal = 0; count = count } ≡ output b
-      unfolding output listing
+      -- the answer of printing them
+      pub accepted-output : {refusal count : ℕ} → (refusal ≡ 0) × (count ≡ length (sheetText (sheetOf (take (w .count) after))))
+          → (refusal ≡ sheetRefusal b) × (count ≡ length (listing b))
+      unfolding listing
       accepted-output n =
           let none = sym refusal-is ∙ z in
-          rw (n, numbers-taken, writes-back (sheetAt b) (right .0) .0, none)
+          (n .0 ∙ sym none, n .1 ∙ rw (numbers-taken, writes-back (sheetAt b) (right .0) .0, none))
 
     -- ---- a refused one: its line
 
     pub refused-output : (w .refusal ≡ 0 → ⊥) → {count : ℕ} (t : List ℕ) → length t ≡ textSize
-        → count ≡ reached t 0 (named refusedWord (w .refusal) ++ end) → record { refusal = w .refusal; count = count } ≡ output b
-    unfolding output listing refusedLine
-    refused-output h t size n = rw (n, refusal-is) (of (sheetRefusal b) refl (λ z. h (refusal-is ∙ z)))
+        → count ≡ reached t 0 (named refusedWord (w .refusal) ++ end) → (w .refusal ≡ sheetRefusal b) × (count ≡ length (listing b))
+    unfolding refusedLine
+    refused-output h t size n =
+        (refusal-is, n ∙ rw refusal-is (of (sheetRefusal b) refl (λ z. h (refusal-is ∙ z))))
       where
-        of : (k : ℕ) → sheetRefusal b ≡ k → (k ≡ 0 → ⊥) → record { refusal = k; count = reached t 0 (named refusedWord k ++ end) } ≡ output b
+        of : (k : ℕ) → sheetRefusal b ≡ k → (k ≡ 0 → ⊥) → reached t 0 (named refusedWord k ++ end) ≡ length (listing b)
         of zero q h = absurd (h refl)
-        of (suc k) q h = rw (q, all-of t (refusedLine (suc k)) size (refused-short b k bs q))
+        of (suc k) q h = rw (refused-listed b k q) (all-of t (refusedLine (suc k)) size (refused-short b k bs q))

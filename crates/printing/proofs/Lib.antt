@@ -1,5 +1,4 @@
 -- Laws of the printing functions.
 pub mod Reach
-pub mod Drawn
 pub mod Coming
 pub mod Answered

@@ -1,5 +1,6 @@
 // The lines of a listing, put into a lent text.
 ghost use mathlib.Core.Path.{_≡_};
+ghost use mathlib.Core.List.{_++_};
 ghost use Prim.Native.Nat.{_*_, _^_, _≤_};
 ghost use lib.ListN.{length};
 ghost use lib.Seq.{sets};
@@ -7,7 +8,7 @@ ghost use Rattle.rules.specs.Rules.{finest};
 ghost use Rattle.entries.specs.Entries.{entrySize};
 ghost use Rattle.path.specs.Joined.{shifted};
 ghost use Rattle.text.specs.Reached.{reached};
-ghost use Rattle.listing_text.specs.Lines.{named, followed, pathLine, entryLine};
+ghost use Rattle.listing_text.specs.Lines.{end, named, followed, pathLine, entryLine};
 ghost use Rattle.listing_text.specs.Pieces.{linesIn};
 use entries::Entry;
 use entries::Found;
@@ -16,6 +17,15 @@ use rules::FINEST;
 
 // A segment starts so many positions after the one before.
 const END: i64 = 1 << FINEST;
+
+// A line of one word and its number, from the front of `text` on.
+pub(crate) fn put_line(word: &[u8], n: u32, text: &mut [u8]) -> usize
+    ensures { λ r. ⌜ r ≡ reached (now (text .entry)) 0 (named (now (word .entry)) n ++ end) ⌝ }
+    ensures { λ _. ⌜ now (text .exit) ≡ sets (now (text .entry)) 0 (named (now (word .entry)) n ++ end) ⌝ }
+{
+    let at = put_named(word, n, text, 0);
+    text::put(text, at, b"\n")
+}
 
 pub(crate) fn path_line(path: u32, whole: Drawn, text: &mut [u8]) -> usize
     ensures { λ r. ⌜ r ≡ reached (now (text .entry)) 0 (pathLine path whole) ⌝ }

@@ -14,6 +14,7 @@ use Rattle.io.specs.Digits.{digits, Fewest}
 use Rattle.numbers.specs.Tables.{All}
 use Rattle.numbers.proofs.Tables.{all-append}
 use Rattle.text.specs.Decimal.{digit, decimalIn, decimal, numeral, valueAfter, value, negative, numberOf}
+use Rattle.text.specs.Numeral.{DigitByte}
 
 -- ---- the equations without fuel
 
@@ -47,7 +48,7 @@ module _
         (λ s. subst (P n) (sym (more-digits fuel n s)) (more n _ s (within-fuel fuel (n / 10) (omega arith))))
         (one-or-more n)
 
-    digit-by-digit : (n : ℕ) → P n (decimal n)
+    pub digit-by-digit : (n : ℕ) → P n (decimal n)
     unfolding decimal
     digit-by-digit n = within-fuel n n (omega arith)
 
@@ -85,9 +86,6 @@ reads-back n = digit-by-digit (λ n ds. value ds ≡ n) one more n
 
     more : (n : ℕ) (ds : List ℕ) → 10 ≤ n → value ds ≡ n / 10 → value (ds ++ (digit (n % 10) ∷ [])) ≡ n
     more n ds h e = rw (value-after 0 ds (n % 10), e) (omega arith)
-
-abbrev pub DigitByte : ℕ → Type 0
-DigitByte b = (48 ≤ b) × (b ≤ 57)
 
 pub only-digits : (n : ℕ) → All DigitByte (decimal n)
 only-digits = digit-by-digit (λ n ds. All DigitByte ds) one more

@@ -1,2 +1,3 @@
 pub mod Decimal
+pub mod Numeral
 pub mod Reached

@@ -1,6 +1,6 @@
 -- The sheet is read into 16,384 numbers; those that the answer counts are printed, or its refusal.
 use mathlib.Core.Path.{_≡_, sym}
-use mathlib.Core.List.{List}
+use mathlib.Core.List.{List, _++_}
 use Prim.Native.Nat.{ℕ}
 use native.Mathlib.Omega.{arith}
 use lib.IntN.{ℤ}
@@ -8,6 +8,8 @@ use lib.ListN.{length}
 use lib.Seq.{length-take-le}
 use Rattle.sheet.specs.Bytes.{Bytes}
 use Rattle.sheet.specs.Sheet.{mostNumbers}
+use Rattle.text.proofs.Pieces.{put-inside}
+use Rattle.listing_text.specs.Lines.{refusedWord, end, named}
 use Rattle.printing.proofs.Answered.{count-inside, numbers-accepted, accepted-output, refused-output}
 use borrow.Author.Needs.{needs}
 use Rattle.printing.proofs.print.Statement.{statement}
@@ -37,22 +39,30 @@ slice-aggregate-read c = search needs
 read-requires : tie.Need-read-requires
 read-requires c κs = search needs
 
-slice-aggregate-print-line : tie.Need-slice-aggregate-print-line
-slice-aggregate-print-line c = search needs
+slice-aggregate-put-line : tie.Need-slice-aggregate-put-line
+slice-aggregate-put-line c = search needs
 
-slice-aggregate-print-line-2 : tie.Need-slice-aggregate-print-line-2
-slice-aggregate-print-line-2 c = search needs
+slice-aggregate-put-line-2 : tie.Need-slice-aggregate-put-line-2
+slice-aggregate-put-line-2 c = search needs
 
-print-line-requires : tie.Need-print-line-requires
-print-line-requires c κs = search needs
+put-line-requires : tie.Need-put-line-requires
+put-line-requires c κs = search needs
+
+array-share-prefix-text : tie.Need-array-share-prefix-text
+array-share-prefix-text c = put-inside _ _ (named refusedWord _ ++ end) (c .before .put-line .ensures)
+
+slice-aggregate-hand-over : tie.Need-slice-aggregate-hand-over
+slice-aggregate-hand-over c = sym (length-take-le _ _ (array-share-prefix-text (c .before)))
+
+hand-over-requires : tie.Need-hand-over-requires
+hand-over-requires c κs = search needs
 
 returns : tie.Need-returns
 returns c =
-    let r = c .before .before .before .before .before .before .before in
+    let r = c .before .before .before .before .before .before .before .before .before in
     let text = r .before .before .large-buffer in
-    let other = c .before .before .before .before in
-    refused-output (sheet r) (bytes r) (numbers r) (room r) (r .read .ensures .0) (other .if1 .taken)
-    (text .result) (sym (text .ensures)) (c .before .print-line .ensures .0)
+    refused-output (sheet r) (bytes r) (numbers r) (room r) (r .read .ensures .0) (c .before .before .before .before .before .before .if1 .taken)
+    (text .result) (sym (text .ensures)) (c .before .before .before .put-line .ensures .0)
 
 list-buffer-requires : tie.Need-list-buffer-requires
 list-buffer-requires c κs = search needs
@@ -86,8 +96,8 @@ returns-2 : tie.Need-returns-2
 returns-2 c =
     let other = c .before .before .before .before .before .before .before .before in
     let r = other .before .before .before in
-    let count = c .before .before .print-paths .ensures in
-    accepted-output (sheet r) (bytes r) (numbers r) (room r) (r .read .ensures .0) (other .if1 .left) (r .read .ensures .1) count
+    accepted-output (sheet r) (bytes r) (numbers r) (room r) (r .read .ensures .0) (other .if1 .left) (r .read .ensures .1)
+    (c .before .before .print-paths .ensures)
 
 pub print-spec : {M : Type 1} → statement M
 print-spec =
@@ -97,9 +107,12 @@ print-spec =
     large-buffer-requires
     slice-aggregate-read
     read-requires
-    slice-aggregate-print-line
-    slice-aggregate-print-line-2
-    print-line-requires
+    slice-aggregate-put-line
+    slice-aggregate-put-line-2
+    put-line-requires
+    array-share-prefix-text
+    slice-aggregate-hand-over
+    hand-over-requires
     returns
     list-buffer-requires
     cast-numbers

@@ -1,6 +1,6 @@
 -- What is cut out of the points is the segment by itself.
 use Rattle.printing.proofs.Reach.{segment-part}
-use Rattle.printing.proofs.Drawn.{drawn-same}
+use Rattle.listing_text.proofs.Drawn.{drawn-same}
 use borrow.Author.Needs.{needs}
 use Rattle.printing.proofs.pieces.draw_alone.Statement.{statement}
 use Rattle.printing.proofs.pieces.draw_alone.Tie as tie

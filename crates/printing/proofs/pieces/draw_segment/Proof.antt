@@ -1,5 +1,5 @@
 -- The numbers of the path are read where they stand, and its points as far as the list reaches.
-use Rattle.printing.proofs.Drawn.{drawn-same}
+use Rattle.listing_text.proofs.Drawn.{drawn-same}
 use Rattle.printing.proofs.Reach.{segment-by-numbers}
 use borrow.Author.Needs.{needs}
 use Rattle.printing.proofs.pieces.draw_segment.Statement.{statement}

@@ -15,29 +15,22 @@ use Rattle.text.specs.Reached.{reached}
 use Rattle.text.proofs.Pieces.{Put, put-as, put-both}
 use Rattle.listing_text.specs.declared.Place.{Place}
 use Rattle.listing_text.specs.Lines.{entryLines}
-use Rattle.listing_text.specs.Pieces.{pathIn, heading, pieceText}
-use Rattle.printing.proofs.Drawn.{segment-inside, added-read}
+use Rattle.listing_text.specs.Pieces.{pathIn, segmentAt, heading, headingAt, linesIn, pieceText}
+use Rattle.listing_text.proofs.Drawn.{segment-inside, piece-read}
 use borrow.Author.Needs.{needs}
 use Rattle.printing.proofs.pieces.piece_at.Statement.{statement}
 use Rattle.printing.proofs.pieces.piece_at.Tie as tie
 
 -- `d` and `after`: what drawing the segment answers and leaves in the list
 module _ (l : List ℤ) (q : Place) (list : List ℤ) {d : Drawn} {after : List ℤ}
-    (e : d ≡ drawn finest (alone (pathIn l (q .at)) (q .segment)) (length list))
-    (f : after ≡ written finest (alone (pathIn l (q .at)) (q .segment)) list)
+    (e : d ≡ drawn finest (segmentAt l q) (length list)) (f : after ≡ written finest (segmentAt l q) list)
   where
     entries-inside : entrySize * d .points ≤ length after
     entries-inside = rw (e, f) (segment-inside (pathIn l (q .at)) (q .segment) list)
 
     piece-put : {first at i : ℕ} (t : List ℕ) {u v : List ℕ} → first ≡ min (q .segment) 1
-        → Put t 0 (heading (q .segment) (q .path) (pathIn l (q .at))) at u
-        → Put u at (entryLines (map (shifted (2 ^ finest * q .segment)) (entriesIn after first (d .points - first)))) i v
-        → Put t 0 (pieceText l q (length list)) i v
-    unfolding pieceText
-    piece-put {first} t n p r =
-        let p·k = pathIn l (q .at) in
-        let read = added-read p·k (q .segment) list first (λ z. omega (arith, n, z)) (λ z. omega (arith, n, z)) in
-        put-both _ _ _ _ p (put-as _ _ (ap entryLines (rw (e, f) read)) r)
+        → Put t 0 (headingAt l q) at u → Put u at (linesIn after first (d .points) (q .segment)) i v → Put t 0 (pieceText l q (length list)) i v
+    piece-put t n p r = put-as _ _ (rw (e, f, n) (piece-read l q list)) (put-both _ _ _ _ p r)
 
 put-heading-requires : tie.Need-put-heading-requires
 put-heading-requires c κs = search needs

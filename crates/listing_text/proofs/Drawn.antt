@@ -1,7 +1,8 @@
--- A segment's list as it was drawn into a lent list, read back an entry at a time: whole, and as what the segment adds to its path.
+-- A segment's list as it was drawn into a lent list, read back an entry at a time: whole, as what the segment adds to its path, and as the lines of
+-- the piece at its place.
 use mathlib.Core.Path.{_≡_, refl, ap, _∙_}
 use mathlib.Core.List.{List, [], _∷_, _++_, map, tail}
-use Prim.Native.Nat.{ℕ, zero, suc, _+_, _-_, _*_, _^_, _≤_}
+use Prim.Native.Nat.{ℕ, zero, suc, _+_, _-_, _*_, _^_, _≤_, min}
 use native.Mathlib.Nat.{sub-zero}
 use native.Mathlib.Numerals.{sub-one}
 use native.Mathlib.Omega.{arith}
@@ -17,7 +18,9 @@ use Rattle.path.specs.Path.{Path}
 use Rattle.path.specs.Entries.{entries}
 use Rattle.path.specs.Joined.{alone, shifted}
 use Rattle.path.specs.Answer.{drawRefusal, refusedBy, answer, drawn, written}
-use Rattle.listing_text.specs.Pieces.{segmentEntries, added}
+use Rattle.listing_text.specs.declared.Place.{Place}
+use Rattle.listing_text.specs.Lines.{entryLines}
+use Rattle.listing_text.specs.Pieces.{pathIn, segmentAt, segmentEntries, added, linesIn, headingAt, pieceText}
 
 -- ---- entries read from a list
 
@@ -59,12 +62,20 @@ map-tail : {A B : Type 0} (f : A → B) (xs : List A) → map f (tail xs) ≡ ta
 map-tail f [] = refl
 map-tail f (x ∷ xs) = refl
 
-pub added-read : (p : Path) (k : ℕ) (list : List ℤ) (first : ℕ) → (k ≡ 0 → first ≡ 0) → ((k ≡ 0 → ⊥) → first ≡ 1)
+pub added-read : (p : Path) (k : ℕ) (list : List ℤ)
     → map (shifted (2 ^ finest * k))
-    (entriesIn (written finest (alone p k) list) first (drawn finest (alone p k) (length list) .points - first))
+    (entriesIn (written finest (alone p k) list) (min k 1) (drawn finest (alone p k) (length list) .points - min k 1))
     ≡ added p k (length list)
 unfolding added
-added-read p zero list first start later = rw (start refl, sub-zero, segment-read)
-added-read p (suc k) list first start later =
-    let f : first ≡ 1 = later (λ e. omega arith) in
-    rw (f, entries-tail, segment-read p (suc k) list, map-tail)
+added-read p zero list = rw (sub-zero, segment-read)
+added-read p (suc k) list =
+    let first : min (suc k) 1 ≡ 1 = omega arith in
+    rw (first, entries-tail, segment-read p (suc k) list, map-tail)
+
+-- ---- the piece at a place: its heading, and the lines of its segment's list, from entry 0 or from entry 1 on
+
+pub piece-read : (l : List ℤ) (q : Place) (list : List ℤ) → let p = segmentAt l q in
+    headingAt l q ++ linesIn (written finest p list) (min (q .segment) 1) (drawn finest p (length list) .points) (q .segment)
+    ≡ pieceText l q (length list)
+unfolding pieceText
+piece-read l q list = ap (λ es. headingAt l q ++ entryLines es) (added-read (pathIn l (q .at)) (q .segment) list)
