@@ -14,6 +14,7 @@ import signal
 import subprocess
 import sys
 import tempfile
+from contextlib import contextmanager
 from pathlib import Path
 from xml.dom import minidom
 
@@ -133,35 +134,32 @@ def end_of(words, prepare=None, output=subprocess.DEVNULL, data=LONG):
     return ended.returncode, ended.stderr.decode()
 
 
-def closed_pipe():
-    """Standard output whose reader has gone away."""
+@contextmanager
+def untaken(room):
+    """Each way in which standard output does not take all: its name, what prepares the run, and the output."""
     read, write = os.pipe()
     os.close(read)
-    return write
-
-
-def untaken(room):
-    """Each way in which standard output does not take all: its name, how it is prepared, the output."""
-    full, short, pipe = open("/dev/full", "wb"), open(room / "short", "wb"), closed_pipe()
-    return [("a full disk", None, full), ("a disk that fills up", limit_files, short), ("no standard output", close_output, None),
-            ("a closed pipe", ignore_pipes, pipe)]
+    with open("/dev/full", "wb") as full, open(room / "short", "wb") as short, os.fdopen(write, "wb") as pipe:
+        yield [("a full disk", None, full), ("a disk that fills up", limit_files, short),
+               ("a closed pipe", ignore_pipes, pipe), ("no standard output", close_output, None)]
 
 
 def test_not_taken(tally, room):
     """The program says so on standard error, and the script ends by a status that is not 0."""
     program = program_command("listing")
     said = "listing: standard output did not take the whole listing\n"
+    front = listing(LONG).encode()[:FRONT]
     tally.equal("the program, taken whole", end_of(program), (0, ""))
-    for name, prepare, output in untaken(room):
-        tally.equal(f"the program, {name}", end_of(program, prepare, output), (0, said))
-        if name != "a disk that fills up":
-            tally.equal(f"the program, {name}, a refused sheet", end_of(program, prepare, output, b""), (0, said))
-    front = (room / "short").read_bytes()
-    tally.equal("what was taken", front, listing(LONG).encode()[:FRONT])
-    for name, prepare, output in untaken(room):
-        status, complaint = end_of([str(SCRIPT)], prepare, output)
-        words = "standard output is closed" if output is None else "could not be passed on whole"
-        tally.equal(f"the script, {name}", (status, words in complaint), (2, True))
+    with untaken(room) as ways:
+        for name, prepare, output in ways:
+            tally.equal(f"the program, {name}", end_of(program, prepare, output), (0, said))
+            tally.equal(f"a refused sheet, {name}", end_of(program, prepare, output, b""), (0, said))
+    tally.equal("what was taken", (room / "short").read_bytes(), front)
+    with untaken(room) as ways:
+        for name, prepare, output in ways:
+            status, complaint = end_of([str(SCRIPT)], prepare, output)
+            words = "could not be passed on whole" if output else "standard output is closed"
+            tally.equal(f"the script, {name}", (status, words in complaint), (2, True))
     tally.equal("what was passed on", (room / "short").read_bytes(), front)
 
 
