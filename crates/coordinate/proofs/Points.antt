@@ -1,4 +1,4 @@
--- What rules 1 and 2 say of one coordinate's control points: how far they are from 0, and neighbours from each other.
+-- What rules 1 and 2 say of one coordinate's control points: how far they are from 0, and neighbours from each other; and which points they accept.
 use mathlib.Core.Path.{_≡_, ap₂}
 use mathlib.Core.Bool.{true, _&&_}
 use Prim.Native.Nat.{ℕ}
@@ -11,27 +11,29 @@ use Rattle.rules.proofs.Laws.{coordinate-size, coordinate-range, range-coordina
 use Rattle.coordinate.specs.declared.Control.{Control}
 use Rattle.coordinate.specs.Points.{areCoordinates, areNear}
 
-pub record Extent (H : ℕ) (p : Control) : Type 0 where
-  pub p0 : Size (p .p0) H
-  pub p1 : Size (p .p1) H
-  pub p2 : Size (p .p2) H
-  pub p3 : Size (p .p3) H
+-- of each of the four points
+pub record Each (P : ℤ → Type 0) (p : Control) : Type 0 where
+  pub p0 : P (p .p0)
+  pub p1 : P (p .p1)
+  pub p2 : P (p .p2)
+  pub p3 : P (p .p3)
+
+each-coordinate : (P : ℤ → Type 0) → ((z : ℤ) → isCoordinate z ≡ true → P z) → (p : Control) → areCoordinates p ≡ true → Each P p
+unfolding areCoordinates
+each-coordinate P h p e =
+    let t = and-four (isCoordinate (p .p0)) (isCoordinate (p .p1)) (isCoordinate (p .p2)) (isCoordinate (p .p3)) e in
+    record { p0 = h (p .p0) (t .0); p1 = h (p .p1) (t .1); p2 = h (p .p2) (t .2); p3 = h (p .p3) (t .3) }
+
+abbrev pub Extent : ℕ → Control → Type 0
+Extent H p = Each (λ z. Size z H) p
+
+pub extent : (p : Control) → areCoordinates p ≡ true → Extent 16384 p
+extent p e = each-coordinate (λ z. Size z 16384) coordinate-size p e
 
 pub record Reach (W : ℕ) (p : Control) : Type 0 where
   pub first : Size (p .p1 -ℤ p .p0) W
   pub second : Size (p .p2 -ℤ p .p1) W
   pub third : Size (p .p3 -ℤ p .p2) W
-
-pub extent : (p : Control) → areCoordinates p ≡ true → Extent 16384 p
-unfolding areCoordinates
-extent p e =
-    let t = and-four (isCoordinate (p .p0)) (isCoordinate (p .p1)) (isCoordinate (p .p2)) (isCoordinate (p .p3)) e in
-    record {
-      p0 = coordinate-size (p .p0) (t .0);
-      p1 = coordinate-size (p .p1) (t .1);
-      p2 = coordinate-size (p .p2) (t .2);
-      p3 = coordinate-size (p .p3) (t .3);
-    }
 
 pub reaches : (W : ℕ) (p : Control) → areNear W p ≡ true → Reach W p
 unfolding areNear
@@ -49,24 +51,10 @@ reaches W p e =
 abbrev pub Lies : ℤ → Type 0
 Lies z = (negsuc 16383 ≤ℤ z) × (z ≤ℤ pos 16383)
 
-pub record Lying (p : Control) : Type 0 where
-  pub p0 : Lies (p .p0)
-  pub p1 : Lies (p .p1)
-  pub p2 : Lies (p .p2)
-  pub p3 : Lies (p .p3)
+pub coordinates-lie : (p : Control) → areCoordinates p ≡ true → Each Lies p
+coordinates-lie p e = each-coordinate Lies coordinate-range p e
 
-pub coordinates-lie : (p : Control) → areCoordinates p ≡ true → Lying p
-unfolding areCoordinates
-coordinates-lie p e =
-    let t = and-four (isCoordinate (p .p0)) (isCoordinate (p .p1)) (isCoordinate (p .p2)) (isCoordinate (p .p3)) e in
-    record {
-      p0 = coordinate-range (p .p0) (t .0);
-      p1 = coordinate-range (p .p1) (t .1);
-      p2 = coordinate-range (p .p2) (t .2);
-      p3 = coordinate-range (p .p3) (t .3);
-    }
-
-pub lying-coordinates : (p : Control) → Lying p → areCoordinates p ≡ true
+pub lying-coordinates : (p : Control) → Each Lies p → areCoordinates p ≡ true
 unfolding areCoordinates
 lying-coordinates p l =
     let each : (z : ℤ) → Lies z → isCoordinate z ≡ true = λ z h. range-coordinate {p = z} (h .0) (h .1) in

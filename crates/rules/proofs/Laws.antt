@@ -74,7 +74,10 @@ holds-size {S} {numbers} s =
 
 -- ---- numbers of a number list
 
--- one below 0 is more than any rule allows, and any other is itself
+-- one below 0 is 4,294,967,295, more than any rule allows, and any other is itself
+pub below-zero-largest : (n : ℕ) → natural (negsuc n) ≡ 4294967295
+below-zero-largest n = refl
+
 pub below-zero-too-large : (n : ℕ) → 65536 < natural (negsuc n)
 below-zero-too-large n = omega arith
 
