@@ -134,12 +134,17 @@ def end_of(words, prepare=None, output=subprocess.DEVNULL, data=LONG):
     return ended.returncode, ended.stderr.decode()
 
 
+def closed_pipe():
+    """A pipe that nobody reads."""
+    read, write = os.pipe()
+    os.close(read)
+    return os.fdopen(write, "wb")
+
+
 @contextmanager
 def untaken(room):
     """Each way in which standard output does not take all: its name, what prepares the run, and the output."""
-    read, write = os.pipe()
-    os.close(read)
-    with open("/dev/full", "wb") as full, open(room / "short", "wb") as short, os.fdopen(write, "wb") as pipe:
+    with open("/dev/full", "wb") as full, open(room / "short", "wb") as short, closed_pipe() as pipe:
         yield [("a full disk", None, full), ("a disk that fills up", limit_files, short),
                ("a closed pipe", ignore_pipes, pipe), ("no standard output", close_output, None)]
 
@@ -164,14 +169,18 @@ def test_not_taken(tally, room):
 
 
 def test_reader_goes_away(tally, room):
-    """Only the first line of a long listing is read."""
+    """Only the first line of a long listing is read, or none."""
     (room / "long").write_bytes(LONG)
-    with subprocess.Popen([str(SCRIPT), str(room / "long")], stdout=subprocess.PIPE, stderr=subprocess.PIPE) as running:
+    words = [str(SCRIPT), str(room / "long")]
+    with subprocess.Popen(words, stdout=subprocess.PIPE, stderr=subprocess.PIPE) as running:
         first = running.stdout.readline()
         running.stdout.close()
         complaint = running.stderr.read()
     tally.equal("a reader that goes away", (first, running.returncode), (b"paths 1\n", 128 + signal.SIGPIPE))
     tally.equal("nothing is said of it", complaint, b"")
+    with closed_pipe() as pipe:
+        early = subprocess.run(words, stdout=pipe, stderr=subprocess.PIPE)
+    tally.equal("a reader that was never there", (early.returncode, early.stderr), (128 + signal.SIGPIPE, b""))
 
 
 # A copy of the script with a kit that only pretends

@@ -8,7 +8,6 @@ use lib.Dec.{leb, eqb, leb→le}
 use lib.IntN.{pos}
 use lib.ListN.{length, replicate, length-replicate}
 use borrow.Author.Tests.{eqb-true, eqb-false}
-use Rattle.numbers.specs.Tables.{All}
 use Rattle.numbers.proofs.Tables.{tested}
 use Rattle.rules.proofs.Refusals.{among-all}
 use Rattle.path.proofs.Turns.{by-test}

@@ -1,20 +1,18 @@
 -- The heading, and after it the lines of the entries that the segment adds.
 use mathlib.Core.Path.{_≡_, ap}
-use mathlib.Core.List.{List, map}
-use Prim.Native.Nat.{ℕ, _-_, _*_, _^_, _≤_, min}
+use mathlib.Core.List.{List}
+use Prim.Native.Nat.{ℕ, _*_, _≤_, min}
 use native.Mathlib.Omega.{arith}
 use lib.IntN.{ℤ}
 use lib.ListN.{length}
 use lib.Seq.{length-sets}
 use Rattle.rules.specs.Rules.{finest}
-use Rattle.entries.specs.Entries.{entrySize, entriesIn}
+use Rattle.entries.specs.Entries.{entrySize}
 use Rattle.path.specs.declared.Drawn.{Drawn}
-use Rattle.path.specs.Joined.{alone, shifted}
 use Rattle.path.specs.Answer.{drawn, written}
 use Rattle.text.specs.Reached.{reached}
 use Rattle.text.proofs.Pieces.{Put, put-as, put-both}
 use Rattle.listing_text.specs.declared.Place.{Place}
-use Rattle.listing_text.specs.Lines.{entryLines}
 use Rattle.listing_text.specs.Pieces.{pathIn, segmentAt, heading, headingAt, linesIn, pieceText}
 use Rattle.listing_text.proofs.Drawn.{segment-inside, piece-read}
 use borrow.Author.Needs.{needs}
