@@ -1,12 +1,12 @@
 -- Demand 3 for one coordinate: wherever the invariant holds of a tame course, its registers fit 32 bits and it stands where the course stands.
 use mathlib.Core.Path.{_≡_, refl, ap, _∙_, subst}
 use mathlib.Core.Bool.{true, _&&_}
-use Prim.Native.Nat.{ℕ, _+_, _*_, _^_, _≤_, _<_}
+use Prim.Native.Nat.{ℕ, _+_, _*_, _^_, _≤_}
 use native.Mathlib.Nat.{le-trans, mul-le-mul-right}
 use native.Mathlib.Omega.{arith}
 use lib.Dec.{lit≤}
 use lib.Pow.{pow-mono}
-use lib.IntN.{ℤ, pos, negsuc, natAbs, _+ℤ_, _-ℤ_, _*ℤ_}
+use lib.IntN.{ℤ, pos, negsuc, _*ℤ_}
 use borrow.Author.Tests.{le-leb}
 use Rattle.numbers.proofs.Size.{Size, size-of, size-by, size-sum, size-floor}
 use Rattle.coordinate.specs.declared.Control.{Control}

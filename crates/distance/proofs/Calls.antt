@@ -6,19 +6,19 @@ use Prim.Native.Nat.{ℕ, zero, suc, _+_, _-_, _*_, _^_, _≤_}
 use native.Mathlib.Nat.{add-zero, add-assoc, add-sub-of-le}
 use lib.Dec.{eqb, eqb·suc-zero}
 use lib.Pow.{pow-add}
-use Rattle.operations.specs.Coordinates.{Coordinate, in-x, in-y}
+use Rattle.operations.specs.Coordinates.{Coordinate}
 use Rattle.operations.specs.Position.{stride}
 use Rattle.engine.specs.declared.Drawing.{Drawing}
 use Rattle.engine.specs.declared.Moved.{Moved}
 use Rattle.coordinate.specs.Curve.{Curve}
 use Rattle.coordinate.specs.Registers.{Operation, halve, double, step}
-use Rattle.engine.specs.Drawing.{turned, moved, called, of}
+use Rattle.engine.specs.Drawing.{turned, moved, called}
 use Rattle.coordinate.proofs.Turns.{start-on}
 use Rattle.coordinate.specs.Course.{Course}
 use Rattle.engine.specs.Start.{firstDrawing}
 use Rattle.engine.proofs.Each.{first-of}
 use Rattle.distance.specs.Calls.{after, gain, travelled, ruled}
-use Rattle.coordinate.proofs.Near.{At, scale}
+use Rattle.coordinate.proofs.Near.{scale}
 use Rattle.coordinate.proofs.Stands.{Bounded}
 use Rattle.distance.proofs.Kept.{Kept, kept-turned, call-settled}
 

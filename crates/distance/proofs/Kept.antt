@@ -17,7 +17,7 @@ use Rattle.coordinate.specs.Registers.{Operation, halve, double, step, turn, ar
 use Rattle.coordinate.proofs.Turns.{halve-on, double-on, step-on}
 use Rattle.coordinate.proofs.Near.{At}
 use Rattle.coordinate.proofs.Stands.{Bounded}
-use Rattle.operations.specs.Coordinates.{Coordinate, in-x, in-y}
+use Rattle.operations.specs.Coordinates.{Coordinate, in-x}
 use Rattle.operations.specs.Position.{stride, isDrawing, isAligned}
 use Rattle.operations.specs.Refusals.{gate, ownRefusal, callRefusal, registersRefusal}
 use Rattle.operations.proofs.Every.{true-every}

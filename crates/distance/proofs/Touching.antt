@@ -1,6 +1,4 @@
 -- Where the upper limit does not ask to halve, a step moves the point shown by at most 1 in each coordinate.
-use mathlib.Core.Path.{_≡_}
-use mathlib.Core.Bool.{false}
 use Prim.Native.Nat.{ℕ, _^_, _≤_, _<_}
 use lib.IntN.{natAbs, _-ℤ_}
 use Rattle.coordinate.specs.Course.{Course}

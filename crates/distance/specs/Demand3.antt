@@ -3,14 +3,9 @@
 use mathlib.Core.Path.{_≡_}
 use mathlib.Core.Bool.{true}
 use Prim.Native.Nat.{ℕ, _+_, _*_, _^_, _≤_, _<_}
-use lib.IntN.{pos, natAbs, _-ℤ_, _*ℤ_}
 use Rattle.rules.specs.Rules.{reach, areLimits}
-use Rattle.coordinate.specs.declared.Registers.{Registers}
-use Rattle.coordinate.specs.declared.Control.{Control}
-use Rattle.coordinate.specs.Curve.{curve, exact}
 use Rattle.coordinate.specs.Course.{Course}
 use Rattle.coordinate.specs.Registers.{Operation, halve, double, areRegisters}
-use Rattle.coordinate.specs.Shown.{pixel}
 use Rattle.coordinate.specs.Stands.{Stands}
 use Rattle.operations.specs.Coordinates.{Coordinate}
 use Rattle.operations.specs.Position.{isDrawing}

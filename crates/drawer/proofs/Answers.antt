@@ -11,7 +11,7 @@ use lib.ListN.{length}
 use lib.Seq.{sets}
 use borrow.Author.Tests.{lt-leb, le-leb}
 use Rattle.numbers.proofs.Buffers.{sets-front}
-use Rattle.rules.specs.Refusals.{unless, firstOf, refusalOr, filled}
+use Rattle.rules.specs.Refusals.{unless, refusalOr, filled}
 use Rattle.rules.proofs.Refusals.{first-on, first-stop, answers, refuses}
 use Rattle.entries.specs.declared.Entry.{Entry}
 use Rattle.entries.specs.Entries.{entrySize, flat}

@@ -1,15 +1,11 @@
 -- The two ways of a call and of choosing: a refusal, and what comes where there is none.
 use mathlib.Core.Path.{_≡_, sym, ap, _∙_}
-use mathlib.Core.Bool.{true}
 use Prim.Native.Nat.{ℕ}
-use Rattle.rules.specs.Rules.{areLimits}
-use Rattle.rules.proofs.Refusals.{rule-kept, first-kept, first-on, first-stop, refuses}
+use Rattle.rules.proofs.Refusals.{first-on, first-stop, refuses}
 use Rattle.coordinate.specs.declared.Registers.{Registers}
 use Rattle.coordinate.specs.Registers.{Operation, turn}
 use Rattle.operations.specs.Position.{newLevel, newPosition}
-use Rattle.operations.specs.Refusals.{gate, ownRefusal, callRefusal, registersRefusal, choiceRefusal}
-use Rattle.operations.specs.Lawful.{Open}
-use Rattle.operations.proofs.Gates.{opens}
+use Rattle.operations.specs.Refusals.{callRefusal, registersRefusal}
 use Rattle.engine.specs.declared.Drawing.{Drawing}
 use Rattle.engine.specs.declared.Moved.{Moved}
 use Rattle.engine.specs.Drawing.{of, turned, refused, moved, landed, called}

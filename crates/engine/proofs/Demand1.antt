@@ -1,5 +1,5 @@
 -- Demand 1 for the engine: every entry answers, or refuses by a number of its table, and a refusal changes nothing.
-use mathlib.Core.Path.{_≡_, refl, ap, _∙_}
+use mathlib.Core.Path.{_≡_, refl, ap}
 use mathlib.Core.Option.{none}
 use Prim.Native.Nat.{ℕ, _^_}
 use lib.Dec.{ltb}

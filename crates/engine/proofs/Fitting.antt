@@ -1,18 +1,13 @@
 -- What the machine holds of registers and control points, four numbers of 32 bits each.
 use mathlib.Core.Path.{_≡_, ap}
-use mathlib.Core.Bool.{true}
 use Prim.Native.Nat.{ℕ, _+_, _^_, _<_}
-use native.Mathlib.Omega.{arith}
-use lib.IntN.{ℤ, pos, negsuc}
-use lib.Dec.{leb}
+use lib.IntN.{ℤ}
 use lib.Pow.{pow-pos}
 use lib.Signed.{mag}
 use mir.Syntax.{w32, w64}
 use mir.Val.{SFits, toZ, ofZ}
-use borrow.Author.Tests.{leb-true}
 use Rattle.numbers.proofs.Machine.{Num, fits-size, reads-back, widens}
 use Rattle.numbers.proofs.Size.{Size, size-sum, size-shift}
-use Rattle.numbers.proofs.Tests.{and-true, and-four}
 use Rattle.coordinate.specs.declared.Registers.{Registers}
 use Rattle.engine.specs.declared.turning.Wide.{Wide}
 use Rattle.coordinate.specs.Registers.{double, turn}

@@ -1,6 +1,6 @@
 -- The numbers that the entries answer are those of the tables, whose order is in operations/proofs/Order: of an operation the refusal by level and q
 -- first, and 10 by a new register last.
-use mathlib.Core.Path.{_≡_, ap, _∙_}
+use mathlib.Core.Path.{_≡_, _∙_}
 use Prim.Native.Nat.{ℕ}
 use Rattle.rules.specs.Refusals.{firstOf}
 use Rattle.rules.proofs.Refusals.{first-on, first-stop, answers}
@@ -12,7 +12,6 @@ use Rattle.operations.specs.Coordinates.{Coordinate}
 use Rattle.operations.specs.Refusals.{startRefusal, callRefusal, registersRefusal}
 use Rattle.operations.proofs.Order.{registers-refuse-10, registers-accepted}
 use Rattle.engine.specs.declared.Drawing.{Drawing}
-use Rattle.engine.specs.declared.Moved.{Moved}
 use Rattle.engine.specs.Drawing.{of, turned, refused, called}
 use Rattle.engine.specs.Start.{nothingDrawn, firstDrawing, started}
 use Rattle.engine.proofs.Demand1.{moved-refusal}

@@ -1,6 +1,6 @@
 -- Every piece of an accepted sheet's listing fits the program's text of 65,536 bytes, so that none is cut: a heading of at most 41 bytes,
 -- and at most 2,049 lines of at most 22 bytes, as the numbers of a segment's entries are bounded.
-use mathlib.Core.Path.{_≡_, refl, ap}
+use mathlib.Core.Path.{_≡_, ap}
 use mathlib.Core.List.{List, [], _∷_, _++_, map}
 use Prim.Native.Nat.{ℕ, zero, suc, _+_, _*_, _^_, _≤_, _<_}
 use native.Mathlib.Omega.{arith}

@@ -15,7 +15,7 @@ use Rattle.coordinate.specs.declared.Control.{Control}
 use Rattle.coordinate.specs.Points.{areCoordinates, areNear}
 use Rattle.coordinate.specs.Registers.{Operation, halve, double, step, turn, areRegisters}
 use Rattle.coordinate.specs.Increment.{increment, doubledIncrement}
-use Rattle.operations.specs.Coordinates.{Coordinate, pick, every}
+use Rattle.operations.specs.Coordinates.{pick, every}
 use Rattle.operations.specs.Position.{isDrawing, isAligned, newLevel, newPosition}
 use Rattle.operations.specs.Refusals.{startRefusal, gate, callRefusal, registersRefusal, choiceRefusal}
 use Rattle.operations.specs.Choice.{wantsHalve, wantsDouble, choose}

@@ -1,10 +1,10 @@
 -- The order of the refusals, each with its number: what is broken, and what is kept before it.
-use mathlib.Core.Path.{_≡_, ap₂, _∙_}
-use mathlib.Core.Bool.{true, false, _&&_}
+use mathlib.Core.Path.{_≡_}
+use mathlib.Core.Bool.{true}
 use Prim.Native.Nat.{ℕ, _^_, _≤_, _<_}
 use native.Mathlib.Omega.{arith}
 use lib.Dec.{leb}
-use borrow.Author.Tests.{leb-true, ltb-true, eqb-true, le-leb, lt-ltb, le-ltb, eq-eqb}
+use borrow.Author.Tests.{leb-true, eqb-true, le-leb, lt-ltb, le-ltb, eq-eqb}
 use Rattle.rules.specs.Rules.{reach, isLevel, areLimits}
 use Rattle.rules.proofs.Laws.{Limits, limits-hold, hold-limits}
 use Rattle.rules.proofs.Refusals.{broken}
@@ -12,7 +12,7 @@ use Rattle.coordinate.specs.declared.Registers.{Registers}
 use Rattle.coordinate.specs.declared.Control.{Control}
 use Rattle.coordinate.specs.Points.{areCoordinates, areNear}
 use Rattle.coordinate.specs.Registers.{Operation, halve, double, step, areRegisters}
-use Rattle.coordinate.proofs.Points.{Lying, coordinates-lie, lying-coordinates, Reach, reaches, reaching-near}
+use Rattle.coordinate.proofs.Points.{Each, Lies, coordinates-lie, lying-coordinates, Reach, reaches, reaching-near}
 use Rattle.coordinate.proofs.Bits.{AllWithin, registers-within, within-registers}
 use Rattle.operations.specs.Coordinates.{Coordinate, every}
 use Rattle.operations.specs.Position.{isDrawing, isAligned}
@@ -73,12 +73,12 @@ module _ (new : Coordinate → Registers) where
 -- ---- a start: 1 over all points of every coordinate, then 2, then 3
 
 module _ (F : ℕ) (p : Coordinate → Control) (n : ℕ) where
-  pub start-refuses-1 : (((c : Coordinate) → Lying (p c)) → ⊥) → startRefusal F p n ≡ 1
+  pub start-refuses-1 : (((c : Coordinate) → Each Lies (p c)) → ⊥) → startRefusal F p n ≡ 1
   unfolding startRefusal
   start-refuses-1 h =
       rw (broken (every (λ c. areCoordinates (p c))) (λ e. h (λ c. coordinates-lie (p c) (every-true (λ c. areCoordinates (p c)) e c))))
 
-  module _ (points : (c : Coordinate) → Lying (p c)) where
+  module _ (points : (c : Coordinate) → Each Lies (p c)) where
     all-lie : every (λ c. areCoordinates (p c)) ≡ true
     all-lie = true-every (λ c. areCoordinates (p c)) (λ c. lying-coordinates (p c) (points c))
 

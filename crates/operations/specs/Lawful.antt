@@ -1,5 +1,5 @@
 -- What the refusals look at in level n and position q, said of the numbers. What they look at in control points and registers is in
--- coordinate/proofs (`Lying`, `Reach`, `AllWithin`), and in limits in rules/proofs (`Limits`).
+-- coordinate/proofs (`Lies`, `Reach`, `AllWithin`), and in limits in rules/proofs (`Limits`).
 use mathlib.Core.Path.{_≡_}
 use Prim.Native.Nat.{ℕ, _-_, _*_, _%_, _^_, _≤_, _<_}
 

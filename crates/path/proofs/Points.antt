@@ -7,7 +7,7 @@ use lib.IntN.{ℤ, pos}
 use lib.ListN.{getD}
 use Rattle.rules.specs.Rules.{coordinates}
 use Rattle.operations.specs.Coordinates.{Coordinate, in-x, in-y, pick}
-use Rattle.path.specs.Path.{Path, path, pointAt, control, controls}
+use Rattle.path.specs.Path.{path, pointAt, control, controls}
 use Rattle.path.specs.Listed.{segmentPoints}
 
 pub arguments-in-order : (points : List ℤ) (segments level upper lower : ℕ)

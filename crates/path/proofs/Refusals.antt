@@ -1,5 +1,5 @@
 -- The order of a path's refusals: 14 comes first, then 1 for any coordinate of the whole path, then 2 for any two neighbours, then 3, 4, 9.
-use mathlib.Core.Path.{_≡_, refl, sym, ap, _∙_}
+use mathlib.Core.Path.{_≡_, sym, ap, _∙_}
 use mathlib.Core.Bool.{Bool, true, false, true≢false}
 use Prim.Native.Nat.{ℕ, _+_, _*_, _≤_, _<_}
 use lib.IntN.{pos}

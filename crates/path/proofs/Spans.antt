@@ -1,8 +1,6 @@
 -- The entries of one segment: they go from its first control point to its last, touch one another, rise, and stand where the exact curve
 -- stands; and there are at most 2^F of them.
 use mathlib.Core.Path.{_≡_, sym, ap, _∙_, subst}
-use mathlib.Core.Bool.{false}
-use mathlib.Core.List.{List}
 use Prim.Native.Nat.{ℕ, suc, _+_, _*_, _-_, _^_, _≤_, _<_}
 use native.Mathlib.Omega.{arith}
 use lib.Dec.{lt→ltb}

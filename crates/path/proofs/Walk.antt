@@ -1,7 +1,6 @@
 -- Along the entries of a segment: what holds at the end, is kept by halve and double, which show nothing, and by each step with its entry,
 -- holds of the whole segment.
 use mathlib.Core.Path.{_≡_, refl}
-use mathlib.Core.Bool.{false}
 use mathlib.Core.List.{List, [], _∷_, _++_}
 use Prim.Native.Nat.{ℕ, _^_, _<_}
 use Rattle.operations.specs.ThreeRules.{Rule1}

@@ -1,11 +1,11 @@
 -- Each return rewrites the table `pathRefusal` with the tests that led there.
 use mathlib.Core.Path.{_≡_, sym, _∙_}
-use mathlib.Core.Bool.{true, false}
+use mathlib.Core.Bool.{true}
 use lib.ListN.{length}
 use borrow.Author.Needs.{needs}
 use borrow.Author.Tests.{not-true, not-false}
 use Rattle.rules.specs.Rules.{finest, reach, isLevel, isSize, pointsRefusal}
-use Rattle.rules.proofs.Refusals.{first-on, first-stop}
+use Rattle.rules.proofs.Refusals.{first-stop}
 use Rattle.path.specs.Path.{pathRefusal}
 use Rattle.drawer.proofs.refusal_of.Statement.{statement}
 use Rattle.drawer.proofs.refusal_of.Tie as tie

@@ -1,6 +1,6 @@
 -- A refusal hands the drawing back; otherwise both coordinates are halved and land.
 use mathlib.Core.Path.{_≡_, refl, sym, _∙_}
-use Prim.Native.Nat.{_+_, _≤_}
+use Prim.Native.Nat.{_≤_}
 use native.Mathlib.Omega.{arith}
 use Rattle.rules.specs.Rules.{finest}
 use borrow.Author.Needs.{needs}

@@ -3,7 +3,6 @@ use mathlib.Core.Path.{_≡_, sym, _∙_}
 use borrow.Author.Needs.{needs}
 use Rattle.rules.specs.Rules.{finest}
 use Rattle.rules.proofs.Refusals.{refuses}
-use Rattle.coordinate.specs.Course.{cubic}
 use Rattle.operations.specs.Coordinates.{in-x, in-y, pick}
 use Rattle.operations.specs.Refusals.{startRefusal}
 use Rattle.engine.specs.Drawing.{refused}
