@@ -1,19 +1,16 @@
 -- Demand 1 for the engine: every entry answers, or refuses by a number of its table, and a refusal changes nothing.
 use mathlib.Core.Path.{_≡_, refl, ap}
 use mathlib.Core.Option.{none}
-use Prim.Native.Nat.{ℕ, _^_}
-use lib.Dec.{ltb}
+use Prim.Native.Nat.{ℕ}
 use lib.IntN.{pos}
 use Rattle.rules.specs.Refusals.{Among, firstOf}
-use Rattle.rules.specs.Rules.{reach, areLimits, isLevel}
-use Rattle.rules.proofs.Refusals.{line-among, among, first-among, number-answered, refused-answers}
+use Rattle.rules.proofs.Refusals.{number-answered, refused-answers}
 use Rattle.coordinate.specs.declared.Control.{Control}
-use Rattle.coordinate.specs.Points.{areCoordinates, areNear}
 use Rattle.coordinate.specs.Course.{cubic}
-use Rattle.coordinate.specs.Registers.{Operation, halve, double, step, areRegisters}
-use Rattle.operations.specs.Coordinates.{Coordinate, every}
-use Rattle.operations.specs.Position.{isDrawing, isAligned}
-use Rattle.operations.specs.Refusals.{gate, ownRefusal, callRefusal, registersRefusal, callTable, startRefusal, startTable, choiceRefusal, choiceTable, standardTable}
+use Rattle.coordinate.specs.Registers.{Operation}
+use Rattle.operations.specs.Coordinates.{Coordinate}
+use Rattle.operations.specs.Refusals.{callRefusal, registersRefusal, callTable, startRefusal, startTable, choiceRefusal, choiceTable, standardTable}
+use Rattle.operations.proofs.Tabled.{call-among, start-among, choice-among, standard-among}
 use Rattle.engine.specs.declared.Drawing.{Drawing}
 use Rattle.engine.specs.declared.Moved.{Moved}
 use Rattle.engine.specs.Drawing.{of, turned, refused, moved, called}
@@ -32,44 +29,15 @@ moved-refused k old new h =
 
 -- ---- halve, double and step
 
-own-among : (F : ℕ) (op : Operation) (n q : ℕ) → Among (ownRefusal F op n q) (callTable op)
-own-among F halve n q = line-among (ltb n F) (among tt) (among tt)
-own-among F double n q = line-among (ltb 0 n) (among tt) (line-among (isAligned F n q) (among tt) (among tt))
-own-among F step n q = among tt
-
-pub record Common (op : Operation) : Type 0 where
-  pub none : Among 0 (callTable op)
-  pub end : Among 5 (callTable op)
-  pub outside : Among 10 (callTable op)
-
-common : (op : Operation) → Common op
-common halve = record { none = among tt; end = among tt; outside = among tt }
-common double = record { none = among tt; end = among tt; outside = among tt }
-common step = record { none = among tt; end = among tt; outside = among tt }
-
-call-among : (F : ℕ) (op : Operation) (n q : ℕ) (new : Drawing) → Among (firstOf (callRefusal F op n q) (registersRefusal (λ c. of c new))) (callTable op)
-unfolding callRefusal gate registersRefusal
-call-among F op n q new =
-    let c = common op in
-    let level = line-among (isDrawing F n q) (c .outside) (line-among (ltb q (2 ^ F)) (c .end) (c .none)) in
-    first-among (callRefusal F op n q) (registersRefusal (λ c. of c new)) (first-among (gate F n q) (ownRefusal F op n q) level (own-among F op n q))
-    (line-among (every (λ c. areRegisters (of c new))) (c .outside) (c .none))
-
 pub call-refuses-as-tabled : (F : ℕ) (op : Operation) (d : Drawing) → Among (called F op d .refusal) (callTable op)
 unfolding called
-call-refuses-as-tabled F op d = rw moved-refusal (call-among F op (d .level) (d .q) (turned F op d))
+call-refuses-as-tabled F op d = rw moved-refusal (call-among F op (d .level) (d .q) (λ c. of c (turned F op d)))
 
 pub refused-call-changes-nothing : (F : ℕ) (op : Operation) (d : Drawing) → (called F op d .refusal ≡ 0 → ⊥) → called F op d .drawing ≡ d
 unfolding called
 refused-call-changes-nothing F op d = moved-refused (firstOf (callRefusal F op (d .level) (d .q)) (registersRefusal (λ c. of c (turned F op d)))) d (turned F op d)
 
 -- ---- the start
-
-start-among : (F : ℕ) (p : Coordinate → Control) (n : ℕ) → Among (startRefusal F p n) startTable
-unfolding startRefusal
-start-among F p n =
-    line-among (every (λ c. areCoordinates (p c))) (among tt)
-    (line-among (every (λ c. areNear reach (p c))) (among tt) (line-among (isLevel F n) (among tt) (among tt)))
 
 pub start-refuses-as-tabled : (F : ℕ) (p : Coordinate → Control) (n : ℕ) → Among (started F p n .refusal) startTable
 unfolding started
@@ -88,22 +56,12 @@ refused-start-gives-zeros F p n = moved-refused (startRefusal F p n) nothingDraw
 
 -- ---- choosing
 
-choice-among : (F upper lower n q : ℕ) → Among (choiceRefusal F upper lower n q) choiceTable
-unfolding choiceRefusal gate
-choice-among F upper lower n q =
-    line-among (areLimits upper lower) (among tt)
-    (line-among (isDrawing F n q) (among tt) (line-among (ltb q (2 ^ F)) (among tt) (among tt)))
-
-standard-among : (F n q : ℕ) → Among (choiceRefusal F 65536 32768 n q) standardTable
-unfolding choiceRefusal gate areLimits
-standard-among F n q = line-among (isDrawing F n q) (among tt) (line-among (ltb q (2 ^ F)) (among tt) (among tt))
-
 pub said-refusal : (F upper lower : ℕ) (d : Drawing) → choice F upper lower d .refusal ≡ choiceRefusal F upper lower (d .level) (d .q)
 unfolding choice
 said-refusal F upper lower d = number-answered refusedBy (says (chosen F upper lower d)) (λ (s : Said). s .refusal) (λ k. refl) refl _
 
 pub choice-refuses-as-tabled : (F upper lower : ℕ) (d : Drawing) → Among (choice F upper lower d .refusal) choiceTable
-choice-refuses-as-tabled F upper lower d = rw said-refusal (choice-among F upper lower (d .level) (d .q))
+choice-refuses-as-tabled F upper lower d = rw said-refusal (choice-among F (d .level) (d .q) upper lower)
 
 -- under the standard limits, 65,536 and 32,768
 pub standard-refuses-as-tabled : (F : ℕ) (d : Drawing) → Among (choice F 65536 32768 d .refusal) standardTable

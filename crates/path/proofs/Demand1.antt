@@ -1,16 +1,17 @@
 -- Demand 1 for paths: a refusal is one of the tabled numbers, answers 0 for points and length and leaves the lent list as found.
 use mathlib.Core.Path.{_≡_, refl, sym, ap, _∙_}
 use mathlib.Core.Bool.{Bool, true, false}
-use mathlib.Core.List.{List, _++_}
+use mathlib.Core.List.{List, [], _∷_, _++_}
 use Prim.Native.Nat.{ℕ, zero, suc, _*_, _≤_}
 use native.Mathlib.Omega.{arith}
 use lib.Dec.{leb}
 use lib.IntN.{ℤ}
 use lib.ListN.{length, drop}
 use borrow.Author.Tests.{leb-true}
+use Rattle.numbers.specs.Tables.{All}
 use Rattle.rules.specs.Refusals.{unless, firstOf, refusalOr, filled, Among}
 use Rattle.rules.specs.Rules.{reach, isLevel, areLimits, isSize, arePoints, areChained, pointsRefusal}
-use Rattle.rules.proofs.Refusals.{rule-kept, line-among, among, first-kept, first-among, number-answered, refused-answers, filled-refused}
+use Rattle.rules.proofs.Refusals.{rule-kept, line-among, untabled, among, first-kept, first-among, number-answered, refused-answers, filled-refused}
 use Rattle.entries.specs.Entries.{entrySize, flat}
 use Rattle.entries.specs.Length.{lengthOf}
 use Rattle.path.specs.declared.Drawn.{Drawn}
@@ -58,6 +59,13 @@ draw-refuses-as-tabled F p room =
     (path-among F p (among tt) (among tt) (among tt) (among tt) (among tt) (line-among (areLimits (p .upper) (p .lower)) (among tt) (among tt)))
     (among tt) (among tt))
 
+-- and by no other number
+pub measure-refuses-nothing-else : (F : ℕ) (p : Path) → All (λ k. measured F p .refusal ≡ k → ⊥) (5 ∷ 6 ∷ 7 ∷ 8 ∷ 9 ∷ 10 ∷ [])
+measure-refuses-nothing-else F p = untabled measureTable (5 ∷ 6 ∷ 7 ∷ 8 ∷ 9 ∷ 10 ∷ []) (measure-refuses-as-tabled F p) tt
+
+pub draw-refuses-nothing-else : (F : ℕ) (p : Path) (room : ℕ) → All (λ k. drawn F p room .refusal ≡ k → ⊥) (5 ∷ 6 ∷ 7 ∷ 8 ∷ 10 ∷ [])
+draw-refuses-nothing-else F p room = untabled drawTable (5 ∷ 6 ∷ 7 ∷ 8 ∷ 10 ∷ []) (draw-refuses-as-tabled F p room) tt
+
 -- under the standard limits, 65,536 and 32,768, without 4
 module _ (F : ℕ) (points : List ℤ) (segments level : ℕ) where
   pub standard-measure-refuses-as-tabled : Among (measured F (path points segments level 65536 32768) .refusal) standardMeasureTable
@@ -70,6 +78,12 @@ module _ (F : ℕ) (points : List ℤ) (segments level : ℕ) where
   standard-draw-refuses-as-tabled room =
       rw drawn-refusal
       (room-among F _ room (path-among F _ (among tt) (among tt) (among tt) (among tt) (among tt) (among tt)) (among tt) (among tt))
+
+  pub standard-measure-never-4 : All (λ k. measured F (path points segments level 65536 32768) .refusal ≡ k → ⊥) (4 ∷ 9 ∷ [])
+  standard-measure-never-4 = untabled standardMeasureTable (4 ∷ 9 ∷ []) standard-measure-refuses-as-tabled tt
+
+  pub standard-draw-never-4 : (room : ℕ) → All (λ k. drawn F (path points segments level 65536 32768) room .refusal ≡ k → ⊥) (4 ∷ [])
+  standard-draw-never-4 room = untabled standardDrawTable (4 ∷ []) (standard-draw-refuses-as-tabled room) tt
 
 -- ---- a refusal
 
