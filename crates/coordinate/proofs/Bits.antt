@@ -22,42 +22,37 @@ pub fits-register : (z : ℤ) → SFits w32 z → isRegister z ≡ true
 fits-register (pos n) s = le-leb n 2147483647 (omega (arith, s .sfits))
 fits-register (negsuc n) s = rw (le-leb n 2147483647 (omega (arith, s .sfits))) refl
 
--- ---- four numbers of 32 bits, as registers and control points are
+-- ---- four numbers of which the same holds, as of registers and control points
 
-pub record Fitting (p q r s : ℤ) : Type 0 where
-  pub a : SFits w32 p
-  pub b : SFits w32 q
-  pub c : SFits w32 r
-  pub d : SFits w32 s
+pub record Four (P : ℤ → Type 0) (p q r s : ℤ) : Type 0 where
+  pub a : P p
+  pub b : P q
+  pub c : P r
+  pub d : P s
+
+each : (P : ℤ → Type 0) → ((z : ℤ) → isRegister z ≡ true → P z) → (r : Registers) → areRegisters r ≡ true → Four P (r .a) (r .b) (r .c) (r .d)
+unfolding areRegisters
+each P h r e =
+    let t = and-four (isRegister (r .a)) (isRegister (r .b)) (isRegister (r .c)) (isRegister (r .d)) e in
+    record { a = h (r .a) (t .0); b = h (r .b) (t .1); c = h (r .c) (t .2); d = h (r .d) (t .3) }
+
+-- each of 32 bits
+abbrev pub Fitting : ℤ → ℤ → ℤ → ℤ → Type 0
+Fitting p q r s = Four (SFits w32) p q r s
 
 abbrev pub Fits32 : Registers → Type 0
 Fits32 r = Fitting (r .a) (r .b) (r .c) (r .d)
 
-each : (r : Registers) → areRegisters r ≡ true
-    → (isRegister (r .a) ≡ true) × (isRegister (r .b) ≡ true) × (isRegister (r .c) ≡ true) × (isRegister (r .d) ≡ true)
-unfolding areRegisters
-each r e = and-four (isRegister (r .a)) (isRegister (r .b)) (isRegister (r .c)) (isRegister (r .d)) e
-
 pub registers-fit : (r : Registers) → areRegisters r ≡ true → Fits32 r
-registers-fit r e =
-    let t = each r e in
-    record {
-      a = register-fits (r .a) (t .0);
-      b = register-fits (r .b) (t .1);
-      c = register-fits (r .c) (t .2);
-      d = register-fits (r .d) (t .3);
-    }
+registers-fit r e = each (SFits w32) register-fits r e
 
 -- ---- in numbers: each from −2,147,483,648 to 2,147,483,647, and 10 by registers exactly where one is not
 
 abbrev pub Within32 : ℤ → Type 0
 Within32 z = (negsuc 2147483647 ≤ℤ z) × (z ≤ℤ pos 2147483647)
 
-pub record AllWithin (r : Registers) : Type 0 where
-  pub a : Within32 (r .a)
-  pub b : Within32 (r .b)
-  pub c : Within32 (r .c)
-  pub d : Within32 (r .d)
+abbrev pub AllWithin : Registers → Type 0
+AllWithin r = Four Within32 (r .a) (r .b) (r .c) (r .d)
 
 register-within : (z : ℤ) → isRegister z ≡ true → Within32 z
 register-within z e =
@@ -68,14 +63,7 @@ within-register : (z : ℤ) → Within32 z → isRegister z ≡ true
 within-register z w = ap₂ _&&_ (le-leZ (w .0)) (le-leZ (w .1))
 
 pub registers-within : (r : Registers) → areRegisters r ≡ true → AllWithin r
-registers-within r e =
-    let t = each r e in
-    record {
-      a = register-within (r .a) (t .0);
-      b = register-within (r .b) (t .1);
-      c = register-within (r .c) (t .2);
-      d = register-within (r .d) (t .3);
-    }
+registers-within r e = each Within32 register-within r e
 
 pub within-registers : (r : Registers) → AllWithin r → areRegisters r ≡ true
 unfolding areRegisters
