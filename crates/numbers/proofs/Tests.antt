@@ -27,10 +27,6 @@ and-four a b c d e =
     let two = and-three a b c (three .0) in
     (two .0, two .1, two .2, three .1)
 
-pub and-false : (a : Bool) → (a && false) ≡ false
-and-false true = refl
-and-false false = refl
-
 -- from −m to m, as two comparisons
 pub within : (m : ℕ) (z : ℤ) → (leZ (negsuc m) z && leZ z (pos (suc m))) ≡ leb (natAbs z) (suc m)
 within m (pos a) = refl
