@@ -1,5 +1,5 @@
 -- The increment now, and after doubling, from b and c: the magnitude of a floor, and not the floor of a magnitude.
-use mathlib.Core.Path.{_≡_, ap, ap₂, _∙_}
+use mathlib.Core.Path.{_≡_, refl, ap, ap₂, _∙_}
 use Prim.Native.Nat.{ℕ, suc, _+_, _-_, _^_}
 use native.Mathlib.Omega.{arith}
 use lib.IntN.{ℤ, natAbs, _+ℤ_}
@@ -9,12 +9,16 @@ use Rattle.coordinate.specs.Increment.{increment, doubledIncrement}
 use Rattle.coordinate.proofs.Back.{two-above}
 use Rattle.coordinate.proofs.Floors.{Floor, floor-shift}
 
--- at level n + 1 it is (c + (b >> (n + 2))) >> n
-pub doubled-increment : (n : ℕ) (r : Registers) → doubledIncrement (suc n) r ≡ natAbs ((r .c +ℤ (r .b >> (n + 2))) >> n)
+-- After doubling it is (c + (b >> (n + 1))) >> (n − 1): a and d, and the doubled a, b and d, are not looked at.
+pub doubled-from-b-and-c : (n : ℕ) (r : Registers) → doubledIncrement n r ≡ natAbs ((r .c +ℤ (r .b >> (n + 1))) >> (n - 1))
 unfolding doubledIncrement increment turn
+doubled-from-b-and-c n r = refl
+
+-- at level n + 1, where nothing is cut off below 0
+pub doubled-increment : (n : ℕ) (r : Registers) → doubledIncrement (suc n) r ≡ natAbs ((r .c +ℤ (r .b >> (n + 2))) >> n)
 doubled-increment n r =
     let coarser : suc n - 1 ≡ n = omega arith in
-    ap₂ (λ (k m : ℕ). natAbs ((r .c +ℤ (r .b >> k)) >> m)) (two-above n) coarser
+    doubled-from-b-and-c (suc n) r ∙ ap₂ (λ (k m : ℕ). natAbs ((r .c +ℤ (r .b >> k)) >> m)) (two-above n) coarser
 
 -- ---- the same by floors
 

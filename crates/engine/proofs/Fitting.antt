@@ -1,16 +1,13 @@
 -- What the machine holds of registers and control points, four numbers of 32 bits each.
 use mathlib.Core.Path.{_≡_, ap}
-use Prim.Native.Nat.{ℕ, _+_, _^_, _<_}
+use Prim.Native.Nat.{_^_, _<_}
 use lib.IntN.{ℤ}
-use lib.Pow.{pow-pos}
 use lib.Signed.{mag}
 use mir.Syntax.{w32, w64}
 use mir.Val.{SFits, toZ, ofZ}
 use Rattle.numbers.proofs.Machine.{Num, fits-size, reads-back, widens}
-use Rattle.numbers.proofs.Size.{Size, size-sum, size-shift}
 use Rattle.coordinate.specs.declared.Registers.{Registers}
 use Rattle.engine.specs.declared.turning.Wide.{Wide}
-use Rattle.coordinate.specs.Registers.{double, turn}
 use Rattle.coordinate.proofs.Bits.{Fitting, Fits32}
 use Rattle.engine.specs.Wide.{narrowed}
 
@@ -44,11 +41,3 @@ widened w r f e =
       c = held (w .c) (f .c) (ap (λ (s : Registers). s .c) e);
       d = held (w .d) (f .d) (ap (λ (s : Registers). s .d) e);
     }
-
--- the doubled c
-pub doubled-size : (n : ℕ) (r : Registers) → Fits32 r → Size (turn double n r .c) 4294967296
-unfolding turn
-doubled-size n r f = size-sum (fits-size (f .c)) (size-shift (2 ^ (n + 1)) (pow-pos (n + 1)) (fits-size (f .b)))
-
-abbrev pub doubled-c : (n : ℕ) (r : Registers) → Fits32 r → (v : ℤ) → v ≡ turn double n r .c → Num 4294967296 (turn double n r .c)
-doubled-c n r f v e = record { machine = v; is = e; small = doubled-size n r f }

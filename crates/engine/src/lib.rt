@@ -12,15 +12,17 @@ ghost use Rattle.engine.specs.Drawing.{called};
 ghost use Rattle.engine.specs.Start.{started};
 ghost use Rattle.engine.specs.Choice.{said, choice};
 ghost use Rattle.engine.specs.Shown.{point};
-use choosing::wants_double;
-use choosing::wants_halve;
+use choosing::doubled_increment_of;
+use choosing::increment_of;
 use coordinate::Control;
 use coordinate::Registers;
 use refusals::choice_refusal;
 use refusals::double_refusal;
 use refusals::gate;
 use refusals::halve_refusal;
+use refusals::is_aligned;
 use refusals::stride;
+use rules::FINEST;
 use starting::nothing;
 use starting::start_one;
 use starting::start_refusal;
@@ -134,10 +136,24 @@ impl Drawing {
         if refusal != 0 {
             return Next::Refused(refusal);
         }
-        if wants_halve(self, upper) {
+        let x = increment_of(self.x.c, level);
+        let y = increment_of(self.y.c, level);
+        if (((upper as u64) < x) | ((upper as u64) < y)) & (level < FINEST) {
             return Next::Halve;
         }
-        if wants_double(self, upper, lower) {
+        if level == 0 {
+            return Next::Step;
+        }
+        let smaller = (x < lower as u64) & (y < lower as u64);
+        if !smaller {
+            return Next::Step;
+        }
+        if !is_aligned(level, q) {
+            return Next::Step;
+        }
+        let doubled_x = doubled_increment_of(self.x.b, self.x.c, level);
+        let doubled_y = doubled_increment_of(self.y.b, self.y.c, level);
+        if (doubled_x <= upper as u64) & (doubled_y <= upper as u64) {
             return Next::Double;
         }
         Next::Step

@@ -1,13 +1,25 @@
--- A refusal names no operation; otherwise the two tests choose as `choose` does.
+-- A refusal names no operation. Otherwise the tests are those of `choose`, one after another: a doubled increment is reckoned only where all else asks to
+-- double.
 use mathlib.Core.Path.{_≡_, sym, _∙_}
-use Prim.Native.Nat.{_≤_}
+use mathlib.Core.Bool.{Bool, true, cond, _&&_}
+use Prim.Native.Nat.{ℕ, _≤_}
+use native.Mathlib.Omega.{arith}
+use lib.Dec.{leb, ltb}
+use mir.Facts.{toZ-ofZ}
+use borrow.Author.Needs.{needs}
+use borrow.Author.Tests.{ltb-true, lt-ltb, not-true, not-false}
 use Rattle.rules.specs.Rules.{finest}
 use Rattle.rules.proofs.Refusals.{refuses}
-use borrow.Author.Needs.{needs}
+use Rattle.coordinate.specs.Registers.{double, step}
+use Rattle.coordinate.specs.Increment.{increment}
+use Rattle.coordinate.proofs.Bits.{Fits32}
 use Rattle.operations.specs.Refusals.{choiceRefusal}
-use Rattle.operations.specs.Choice.{choose}
+use Rattle.operations.specs.Choice.{wantsHalve, wantsDouble, choose}
 use Rattle.operations.proofs.Gates.{choice-opens}
-use Rattle.engine.specs.Choice.{refusedBy, choice}
+use Rattle.engine.specs.declared.Drawing.{Drawing}
+use Rattle.engine.specs.Drawing.{of}
+use Rattle.engine.specs.Choice.{Said, says, refusedBy, choice}
+use Rattle.engine.proofs.Fitting.{told}
 use Rattle.engine.proofs.Drawing.next.Statement.{statement}
 use Rattle.engine.proofs.Drawing.next.Tie as tie
 
@@ -19,31 +31,128 @@ unfolding choice
 returns c =
     refuses refusedBy _ (c .before .choice-refusal .ensures) (c .if1 .taken)
 
-passes : (c : tie.Else1) → choiceRefusal finest (c .before .before .args .upper) (c .before .before .args .lower) (c .before .before .args .self .level) (c .before .before .args .self .q) ≡ 0
+-- ---- where it is not refused
+
+abbrev d : tie.Else1 → Drawing
+d c = c .before .before .args .self
+
+abbrev upper : tie.Else1 → ℕ
+upper c = c .before .before .args .upper
+
+abbrev lower : tie.Else1 → ℕ
+lower c = c .before .before .args .lower
+
+abbrev answer : tie.Else1 → Said
+answer c = choice finest (upper c) (lower c) (d c)
+
+passes : (c : tie.Else1) → choiceRefusal finest (upper c) (lower c) (d c .level) (d c .q) ≡ 0
 passes c = sym (c .before .choice-refusal .ensures) ∙ c .if1 .left
 
-low : (c : tie.Else1) → c .before .before .args .self .level ≤ finest
-low c = choice-opens finest (c .before .before .args .upper) (c .before .before .args .lower) _ _ (passes c) .1 .inside .level
+low : (c : tie.Else1) → d c .level ≤ finest
+low c = choice-opens finest (upper c) (lower c) _ _ (passes c) .1 .inside .level
 
-wants-halve-requires : tie.Need-wants-halve-requires
-wants-halve-requires c κs = low c
+fits-x : (c : tie.Else1) → Fits32 (d c .x)
+fits-x c = told (c .before .before .good .0 .1 .1 .1 .1 .0 .1 .1)
+
+fits-y : (c : tie.Else1) → Fits32 (d c .y)
+fits-y c = told (c .before .before .good .0 .1 .1 .1 .1 .1 .0 .1 .1)
+
+-- ---- rule 1
+
+increment-of-requires : tie.Need-increment-of-requires
+increment-of-requires c κs = low (c .before)
+
+increment-of-requires-2 : tie.Need-increment-of-requires-2
+increment-of-requires-2 c κs = low (c .before .before .before)
+
+abbrev begun : tie.After-increment-of2 → tie.Else1
+begun c = c .before .before .before .before
+
+x : (c : tie.After-increment-of2) → increment (d (begun c) .level) (d (begun c) .x) ≡ c .before .before .increment-of .result
+x c = sym (c .before .before .increment-of .ensures (d (begun c) .x) (sym (toZ-ofZ (fits-x (begun c) .c))))
+
+y : (c : tie.After-increment-of2) → increment (d (begun c) .level) (d (begun c) .y) ≡ c .increment-of2 .result
+y c = sym (c .increment-of2 .ensures (d (begun c) .y) (sym (toZ-ofZ (fits-y (begun c) .c))))
 
 returns-2 : tie.Need-returns-2
-unfolding choice choose
-returns-2 c = simp (passes (c .before .before), sym (c .before .wants-halve .ensures) ∙ c .if2 .taken)
+unfolding choice choose wantsHalve
+returns-2 c = simp (passes (begun (c .before)), x (c .before), y (c .before), c .if2 .taken)
 
-wants-double-requires : tie.Need-wants-double-requires
-wants-double-requires c κs = low (c .before .before)
+-- ---- rule 2, up to the position
+
+rule-2 : (c : tie.Else2)
+    → let e = begun (c .before) in answer e ≡ says (cond (wantsDouble finest (upper e) (lower e) (d e .level) (d e .q) (λ k. of k (d e))) double step)
+unfolding choice choose wantsHalve
+rule-2 c = simp (passes (begun (c .before)), x (c .before), y (c .before), c .if2 .left)
 
 returns-3 : tie.Need-returns-3
-unfolding choice choose
-returns-3 c =
-    simp (passes (c .before .before .before .before), sym (c .before .before .before .wants-halve .ensures) ∙ c .before .before .if2 .left, sym (c .before .wants-double .ensures) ∙ c .if3 .taken)
+unfolding wantsDouble
+returns-3 c = sym (rule-2 (c .before) ∙ simp (c .if3 .taken))
+
+above : (c : tie.Else3) → ltb 0 (d (begun (c .before .before)) .level) ≡ true
+above c = lt-ltb 0 (d (begun (c .before .before)) .level) (omega (arith, c .if3 .left))
+
+abbrev smaller : tie.Else3 → Bool
+smaller c =
+    let i = c .before .before in
+    ltb (i .before .before .increment-of .result) (lower (begun i)) && ltb (i .increment-of2 .result) (lower (begun i))
 
 returns-4 : tie.Need-returns-4
-unfolding choice choose
+unfolding wantsDouble
 returns-4 c =
-    simp (passes (c .before .before .before .before), sym (c .before .before .before .wants-halve .ensures) ∙ c .before .before .if2 .left, sym (c .before .wants-double .ensures) ∙ c .if3 .left)
+    let e = c .before in
+    sym (rule-2 (e .before) ∙ simp (above e, x (e .before .before), y (e .before .before), not-true (smaller e) (c .if4 .taken)))
+
+abbrev slow : tie.Else4 → tie.Else1
+slow c = begun (c .before .before .before)
+
+both : (c : tie.Else4)
+    → let e = slow c in (ltb 0 (d e .level) && (ltb (increment (d e .level) (d e .x)) (lower e) && ltb (increment (d e .level) (d e .y)) (lower e))) ≡ true
+both c = simp (above (c .before), x (c .before .before .before), y (c .before .before .before), not-false (smaller (c .before)) (c .if4 .left))
+
+is-aligned-requires : tie.Need-is-aligned-requires
+is-aligned-requires c κs = low (slow c)
+
+returns-5 : tie.Need-returns-5
+unfolding wantsDouble
+returns-5 c =
+    let e = c .before .before in
+    sym (rule-2 (e .before .before) ∙ simp (both e, sym (c .before .is-aligned .ensures), not-true (c .before .is-aligned .result) (c .if5 .taken)))
+
+-- ---- the doubled increments
+
+may-double : (c : tie.Else5) → let e = slow (c .before .before) in (1 ≤ d e .level) × (d e .level ≤ finest)
+may-double c = (ltb-true 0 _ (above (c .before .before .before)), low (slow (c .before .before)))
+
+doubled-increment-of-requires : tie.Need-doubled-increment-of-requires
+doubled-increment-of-requires c κs = may-double (c .before .before)
+
+doubled-increment-of-requires-2 : tie.Need-doubled-increment-of-requires-2
+doubled-increment-of-requires-2 c κs = may-double (c .before .before .before .before .before)
+
+abbrev even : tie.After-doubled-increment-of2 → tie.Else5
+even c = c .before .before .before .before .before .before
+
+abbrev within : tie.After-doubled-increment-of2 → Bool
+within c =
+    let e = slow (even c .before .before) in
+    leb (c .before .before .before .doubled-increment-of .result) (upper e) && leb (c .doubled-increment-of2 .result) (upper e)
+
+tried : (c : tie.After-doubled-increment-of2) → answer (slow (even c .before .before)) ≡ says (cond (within c) double step)
+unfolding wantsDouble
+tried c =
+    let a = even c .before in
+    let e = slow (a .before) in
+    let x = c .before .before .before .doubled-increment-of .ensures (d e .x) (sym (toZ-ofZ (fits-x e .b))) (sym (toZ-ofZ (fits-x e .c))) in
+    let y = c .doubled-increment-of2 .ensures (d e .y) (sym (toZ-ofZ (fits-y e .b))) (sym (toZ-ofZ (fits-y e .c))) in
+    rule-2 (a .before .before .before)
+    ∙ simp (both (a .before), sym (a .is-aligned .ensures), not-false (a .is-aligned .result) (even c .if5 .left), sym x, sym y)
+
+returns-6 : tie.Need-returns-6
+returns-6 c = sym (tried (c .before) ∙ simp (c .if6 .taken))
+
+returns-7 : tie.Need-returns-7
+returns-7 c = sym (tried (c .before) ∙ simp (c .if6 .left))
 
 pub next-spec : {M : Type 1} → statement M
 next-spec =
@@ -51,8 +160,14 @@ next-spec =
     (tie.spec
     choice-refusal-requires
     returns
-    wants-halve-requires
+    increment-of-requires
+    increment-of-requires-2
     returns-2
-    wants-double-requires
     returns-3
-    returns-4)
+    returns-4
+    is-aligned-requires
+    returns-5
+    doubled-increment-of-requires
+    doubled-increment-of-requires-2
+    returns-6
+    returns-7)

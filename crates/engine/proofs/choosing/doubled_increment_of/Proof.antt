@@ -1,27 +1,38 @@
 -- The doubled c, shifted by one level less, in magnitude.
-use mathlib.Core.Path.{ap, _∙_}
-use Prim.Native.Nat.{_-_}
-use lib.IntN.{natAbs}
+use mathlib.Core.Path.{sym, ap, ap₂, _∙_}
+use Prim.Native.Nat.{_+_, _-_}
+use lib.IntN.{ℤ, natAbs, _+ℤ_}
 use mir.Syntax.{w64}
 use borrow.Author.Needs.{needs}
-use Rattle.numbers.proofs.Machine.{Num, local, shift}
-use Rattle.coordinate.specs.declared.Registers.{Registers}
-use Rattle.coordinate.specs.Registers.{double, turn, _>>_}
-use Rattle.coordinate.specs.Increment.{increment, doubledIncrement}
-use Rattle.engine.proofs.Fitting.{doubled-c, told}
+use Rattle.numbers.proofs.Machine.{Num, field, local, shift, plus, fits, signed}
+use Rattle.coordinate.specs.Registers.{_>>_}
+use Rattle.coordinate.proofs.Increment.{doubled-from-b-and-c}
 use Rattle.engine.proofs.choosing.doubled_increment_of.Statement.{statement}
 use Rattle.engine.proofs.choosing.doubled_increment_of.Tie as tie
 
-abbrev r : tie.After-double-one → Registers
-r c = c .before .args .r
+abbrev doubled : (c : tie.Start) → Num 4294967296 (c .args .c +ℤ (c .args .b >> (c .args .n + 1)))
+doubled c = plus (local w64 tt (field (c .fits .c))) (local w64 tt (shift (c .args .n + 1) (local w64 tt (field (c .fits .b)))))
 
-abbrev moved : (c : tie.After-double-one) → Num 4294967296 (turn double (c .before .args .n) (r c) .c >> (c .before .args .n - 1))
-moved c =
-    local w64 tt (shift (c .before .args .n - 1)
-    (local w64 tt (doubled-c (c .before .args .n) (r c) (told (c .before .good .0 .1 .1)) (c .double-one .result .c) (ap (λ (s : Registers). s .c) (c .double-one .ensures)))))
+abbrev shifted : (c : tie.Start) → Num 4294967296 ((c .args .c +ℤ (c .args .b >> (c .args .n + 1))) >> (c .args .n - 1))
+shifted c = local w64 tt (shift (c .args .n - 1) (local w64 tt (doubled c)))
 
-double-one-requires : tie.Need-double-one-requires
-double-one-requires c κs = search needs
+cast-doubled : tie.Need-cast-doubled
+cast-doubled c = search signed
+
+cast-doubled-2 : tie.Need-cast-doubled-2
+cast-doubled-2 c = search signed
+
+add-doubled : tie.Need-add-doubled
+add-doubled c = search needs
+
+cast-doubled-3 : tie.Need-cast-doubled-3
+cast-doubled-3 c = search needs
+
+shr-doubled : tie.Need-shr-doubled
+shr-doubled c = search needs
+
+add-doubled-2 : tie.Need-add-doubled-2
+add-doubled-2 c = fits tt (doubled c)
 
 sub-magnitude : tie.Need-sub-magnitude
 sub-magnitude c = search needs
@@ -36,9 +47,24 @@ magnitude-requires : tie.Need-magnitude-requires
 magnitude-requires c κs = search needs
 
 returns : tie.Need-returns
-unfolding doubledIncrement increment
-returns c = c .magnitude .ensures ∙ ap natAbs (moved (c .before .before .before) .is)
+returns c r b-is c-is =
+    let n = c .before .args .n in
+    c .magnitude .ensures
+    ∙ ap natAbs (shifted (c .before) .is ∙ ap₂ (λ (y z : ℤ). (z +ℤ (y >> (n + 1))) >> (n - 1)) (sym b-is) (sym c-is))
+    ∙ sym (doubled-from-b-and-c n r)
 
 pub doubled-increment-of-spec : {M : Type 1} → statement M
 doubled-increment-of-spec =
-    tie.close (tie.spec double-one-requires sub-magnitude cast-magnitude shr-magnitude magnitude-requires returns)
+    tie.close
+    (tie.spec
+    cast-doubled
+    cast-doubled-2
+    add-doubled
+    cast-doubled-3
+    shr-doubled
+    add-doubled-2
+    sub-magnitude
+    cast-magnitude
+    shr-magnitude
+    magnitude-requires
+    returns)

@@ -1,30 +1,22 @@
 -- The shifted c, in magnitude.
-use mathlib.Core.Path.{ap, _∙_}
-use lib.IntN.{natAbs}
+use mathlib.Core.Path.{sym, ap, _∙_}
+use lib.IntN.{ℤ, natAbs}
 use mir.Syntax.{w64}
 use borrow.Author.Needs.{needs}
-use Rattle.numbers.proofs.Machine.{Num, local, shift}
-use Rattle.coordinate.specs.declared.Registers.{Registers}
+use Rattle.numbers.proofs.Machine.{Num, field, local, shift, signed}
 use Rattle.coordinate.specs.Registers.{_>>_}
 use Rattle.coordinate.specs.Increment.{increment}
-use Rattle.engine.proofs.Fitting.{Widened, widened, told}
 use Rattle.engine.proofs.choosing.increment_of.Statement.{statement}
 use Rattle.engine.proofs.choosing.increment_of.Tie as tie
 
-abbrev r : tie.After-widen → Registers
-r c = c .before .args .r
-
-abbrev old : (c : tie.After-widen) → Widened (c .widen .result) (r c)
-old c = widened (c .widen .result) (r c) (told (c .before .good .0 .1 .1)) (c .widen .ensures)
-
-abbrev moved : (c : tie.After-widen) → Num 2147483648 (r c .c >> c .before .args .n)
-moved c = local w64 tt (shift (c .before .args .n) (old c .c))
-
-widen-requires : tie.Need-widen-requires
-widen-requires c κs = search needs
+abbrev shifted : (c : tie.Start) → Num 2147483648 (c .args .c >> c .args .n)
+shifted c = local w64 tt (shift (c .args .n) (local w64 tt (field (c .fits .c))))
 
 cast-magnitude : tie.Need-cast-magnitude
-cast-magnitude c = search needs
+cast-magnitude c = search signed
+
+cast-magnitude-2 : tie.Need-cast-magnitude-2
+cast-magnitude-2 c = search needs
 
 shr-magnitude : tie.Need-shr-magnitude
 shr-magnitude c = search needs
@@ -34,7 +26,8 @@ magnitude-requires c κs = search needs
 
 returns : tie.Need-returns
 unfolding increment
-returns c = c .magnitude .ensures ∙ ap natAbs (moved (c .before .before .before) .is)
+returns c r is = c .magnitude .ensures ∙ ap natAbs (shifted (c .before) .is ∙ ap (λ (z : ℤ). z >> c .before .args .n) (sym is))
 
 pub increment-of-spec : {M : Type 1} → statement M
-increment-of-spec = tie.close (tie.spec widen-requires cast-magnitude shr-magnitude magnitude-requires returns)
+increment-of-spec =
+    tie.close (tie.spec cast-magnitude cast-magnitude-2 shr-magnitude magnitude-requires returns)
