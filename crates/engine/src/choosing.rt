@@ -10,7 +10,7 @@ pub(crate) fn increment_of(c: i32, n: u32) -> u64
     requires { ⌜ n ≤ finest ⌝ }
     ensures { λ k. ⌜ ((r : Registers) → r .c ≡ c → k ≡ increment n r) ⌝ }
 {
-    words::magnitude((c as i64) >> n)
+    words::magnitude((c >> n) as i64)
 }
 
 // What it would be after doubling, for any registers with this b and this c. In 64 bits, since the doubled c of made-up registers may leave 32.

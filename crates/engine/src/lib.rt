@@ -141,14 +141,9 @@ impl Drawing {
         if (((upper as u64) < x) | ((upper as u64) < y)) & (level < FINEST) {
             return Next::Halve;
         }
-        if level == 0 {
-            return Next::Step;
-        }
+        // A doubled increment is reckoned only where all else asks to double.
         let smaller = (x < lower as u64) & (y < lower as u64);
-        if !smaller {
-            return Next::Step;
-        }
-        if !is_aligned(level, q) {
+        if !((0 < level) & smaller & is_aligned(level, q)) {
             return Next::Step;
         }
         let doubled_x = doubled_increment_of(self.x.b, self.x.c, level);

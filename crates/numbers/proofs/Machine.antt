@@ -1,5 +1,5 @@
 -- Signed numbers of the machine, read as whole numbers. `Num N z`: what the machine holds is z, and |z| is at most N.
--- A proof follows its code: a parameter or a field is `field`, what went through a local is `local`, and `shift`, `plus`, `minus` and
+-- A proof follows its code: a parameter or a field is `field`, what went through a local is `local` or `kept`, and `shift`, `plus`, `minus` and
 -- `times` are the operations. The bounds are numerals that antt computes, so that each condition is `tt`.
 use mathlib.Core.Path.{_≡_, refl, sym, ap, _∙_, subst}
 use mathlib.Core.Bool.{true, false}
@@ -11,10 +11,11 @@ use lib.Dec.{T, leb, ltb, leb→le, ltb→lt}
 use lib.Pow.{pow-pos}
 use lib.IntN.{ℤ, pos, negsuc, natAbs, _+ℤ_, _-ℤ_, _*ℤ_}
 use lib.ListN.{getD}
-use lib.Signed.{mag, shrZ, nonNeg}
+use lib.Signed.{mag, mag-shr, shrZ, nonNeg}
 use mir.Syntax.{Width, w32, w64}
 use mir.Val.{Fits, SFits, toZ, ofZ, bits, hbits}
 use mir.Facts.{toZ-ofZ, sfits-widen}
+use mir.ValLaws.{sfits-le}
 use borrow.Author.Needs.{needs}
 use Rattle.numbers.specs.Tests.{eqbℤ}
 use Rattle.numbers.proofs.Tests.{eq→eqbℤ, ne→eqbℤ}
@@ -69,10 +70,13 @@ plain {z = z} s = record { machine = z; is = refl; small = s }
 abbrev pub literal : (n : ℕ) → Num n (pos n)
 literal n = plain (size-of n)
 
--- through a local
+-- through a local that has room for it
+abbrev pub kept : (w : Width) {N : ℕ} {z : ℤ} → SFits w z → Num N z → Num N z
+kept w f n = record { machine = toZ w (ofZ w (n .machine)); is = reads-back (n .is) f; small = n .small }
+
+-- by its bound
 abbrev pub local : (w : Width) {N : ℕ} {z : ℤ} → T (ltb N (2 ^ hbits w)) → Num N z → Num N z
-local w t n =
-    record { machine = toZ w (ofZ w (n .machine)); is = reads-back (n .is) (size-fits t (n .small)); small = n .small }
+local w t n = kept w (size-fits t (n .small)) n
 
 -- the same number under a better bound
 abbrev pub tighter : {N M : ℕ} {z : ℤ} → Size z M → Num N z → Num M z
@@ -87,6 +91,10 @@ shift k n =
       is = ap (λ (v : ℤ). shrZ v (2 ^ k)) (n .is);
       small = size-shift (2 ^ k) (pow-pos k) (n .small);
     }
+
+-- it fits where the number does
+pub shift-fits : {w : Width} {z : ℤ} (k : ℕ) → SFits w z → SFits w (shrZ z (2 ^ k))
+shift-fits {z = z} k = sfits-le (mag-shr z (2 ^ k))
 
 -- under a bound that shrinks with it
 abbrev pub shift-to : {N : ℕ} {z : ℤ} (k M : ℕ) → T (leb N (M * 2 ^ k)) → Num N z → Num M (shrZ z (2 ^ k))

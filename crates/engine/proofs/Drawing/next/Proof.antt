@@ -1,17 +1,16 @@
--- A refusal names no operation. Otherwise the tests are those of `choose`, one after another: a doubled increment is reckoned only where all else asks to
--- double.
+-- A refusal names no operation. Otherwise the tests are those of `choose`: a doubled increment is reckoned only where all else asks to double.
 use mathlib.Core.Path.{_≡_, sym, _∙_}
-use mathlib.Core.Bool.{Bool, true, cond, _&&_}
+use mathlib.Core.Bool.{Bool, cond, _&&_}
 use Prim.Native.Nat.{ℕ, _≤_}
-use native.Mathlib.Omega.{arith}
 use lib.Dec.{leb, ltb}
 use mir.Facts.{toZ-ofZ}
 use borrow.Author.Needs.{needs}
-use borrow.Author.Tests.{ltb-true, lt-ltb, not-true, not-false}
+use borrow.Author.Tests.{ltb-true, not-true, not-false}
+use Rattle.numbers.proofs.Tests.{and-three}
 use Rattle.rules.specs.Rules.{finest}
 use Rattle.rules.proofs.Refusals.{refuses}
 use Rattle.coordinate.specs.Registers.{double, step}
-use Rattle.coordinate.specs.Increment.{increment}
+use Rattle.coordinate.specs.Increment.{increment, doubledIncrement}
 use Rattle.coordinate.proofs.Bits.{Fits32}
 use Rattle.operations.specs.Refusals.{choiceRefusal}
 use Rattle.operations.specs.Choice.{wantsHalve, wantsDouble, choose}
@@ -51,6 +50,7 @@ passes c = sym (c .before .choice-refusal .ensures) ∙ c .if1 .left
 low : (c : tie.Else1) → d c .level ≤ finest
 low c = choice-opens finest (upper c) (lower c) _ _ (passes c) .1 .inside .level
 
+-- as the borrow checker tells it of a drawing
 fits-x : (c : tie.Else1) → Fits32 (d c .x)
 fits-x c = told (c .before .before .good .0 .1 .1 .1 .1 .0 .1 .1)
 
@@ -78,51 +78,47 @@ returns-2 : tie.Need-returns-2
 unfolding choice choose wantsHalve
 returns-2 c = simp (passes (begun (c .before)), x (c .before), y (c .before), c .if2 .taken)
 
--- ---- rule 2, up to the position
+-- ---- rule 2
 
 rule-2 : (c : tie.Else2)
     → let e = begun (c .before) in answer e ≡ says (cond (wantsDouble finest (upper e) (lower e) (d e .level) (d e .q) (λ k. of k (d e))) double step)
 unfolding choice choose wantsHalve
 rule-2 c = simp (passes (begun (c .before)), x (c .before), y (c .before), c .if2 .left)
 
-returns-3 : tie.Need-returns-3
-unfolding wantsDouble
-returns-3 c = sym (rule-2 (c .before) ∙ simp (c .if3 .taken))
+is-aligned-requires : tie.Need-is-aligned-requires
+is-aligned-requires c κs = low (begun (c .before))
 
-above : (c : tie.Else3) → ltb 0 (d (begun (c .before .before)) .level) ≡ true
-above c = lt-ltb 0 (d (begun (c .before .before)) .level) (omega (arith, c .if3 .left))
+abbrev looked : tie.After-is-aligned → tie.Else1
+looked c = begun (c .before .before)
 
-abbrev smaller : tie.Else3 → Bool
+abbrev smaller : tie.After-is-aligned → Bool
 smaller c =
     let i = c .before .before in
     ltb (i .before .before .increment-of .result) (lower (begun i)) && ltb (i .increment-of2 .result) (lower (begun i))
 
-returns-4 : tie.Need-returns-4
+-- all but the doubled increments
+abbrev asks : tie.After-is-aligned → Bool
+asks c = ltb 0 (d (looked c) .level) && smaller c && c .is-aligned .result
+
+asked : (c : tie.After-is-aligned)
+    → let e = looked c in
+    answer e
+    ≡ says (cond (asks c && (leb (doubledIncrement (d e .level) (d e .x)) (upper e) && leb (doubledIncrement (d e .level) (d e .y)) (upper e))) double step)
 unfolding wantsDouble
-returns-4 c =
-    let e = c .before in
-    sym (rule-2 (e .before) ∙ simp (above e, x (e .before .before), y (e .before .before), not-true (smaller e) (c .if4 .taken)))
+asked c = rule-2 (c .before) ∙ simp (x (c .before .before), y (c .before .before), sym (c .is-aligned .ensures))
 
-abbrev slow : tie.Else4 → tie.Else1
-slow c = begun (c .before .before .before)
-
-both : (c : tie.Else4)
-    → let e = slow c in (ltb 0 (d e .level) && (ltb (increment (d e .level) (d e .x)) (lower e) && ltb (increment (d e .level) (d e .y)) (lower e))) ≡ true
-both c = simp (above (c .before), x (c .before .before .before), y (c .before .before .before), not-false (smaller (c .before)) (c .if4 .left))
-
-is-aligned-requires : tie.Need-is-aligned-requires
-is-aligned-requires c κs = low (slow c)
-
-returns-5 : tie.Need-returns-5
-unfolding wantsDouble
-returns-5 c =
-    let e = c .before .before in
-    sym (rule-2 (e .before .before) ∙ simp (both e, sym (c .before .is-aligned .ensures), not-true (c .before .is-aligned .result) (c .if5 .taken)))
+returns-3 : tie.Need-returns-3
+returns-3 c = sym (asked (c .before) ∙ simp (not-true (asks (c .before)) (c .if3 .taken)))
 
 -- ---- the doubled increments
 
-may-double : (c : tie.Else5) → let e = slow (c .before .before) in (1 ≤ d e .level) × (d e .level ≤ finest)
-may-double c = (ltb-true 0 _ (above (c .before .before .before)), low (slow (c .before .before)))
+may-double : (c : tie.Else3) → let e = looked (c .before) in (1 ≤ d e .level) × (d e .level ≤ finest)
+may-double c =
+    let a = c .before in
+    let e = looked a in (
+      ltb-true 0 (d e .level) (and-three (ltb 0 (d e .level)) (smaller a) (a .is-aligned .result) (not-false (asks a) (c .if3 .left)) .0),
+      low e,
+    )
 
 doubled-increment-of-requires : tie.Need-doubled-increment-of-requires
 doubled-increment-of-requires c κs = may-double (c .before .before)
@@ -130,29 +126,27 @@ doubled-increment-of-requires c κs = may-double (c .before .before)
 doubled-increment-of-requires-2 : tie.Need-doubled-increment-of-requires-2
 doubled-increment-of-requires-2 c κs = may-double (c .before .before .before .before .before)
 
-abbrev even : tie.After-doubled-increment-of2 → tie.Else5
-even c = c .before .before .before .before .before .before
+abbrev trying : tie.After-doubled-increment-of2 → tie.Else3
+trying c = c .before .before .before .before .before .before
 
 abbrev within : tie.After-doubled-increment-of2 → Bool
 within c =
-    let e = slow (even c .before .before) in
+    let e = looked (trying c .before) in
     leb (c .before .before .before .doubled-increment-of .result) (upper e) && leb (c .doubled-increment-of2 .result) (upper e)
 
-tried : (c : tie.After-doubled-increment-of2) → answer (slow (even c .before .before)) ≡ says (cond (within c) double step)
-unfolding wantsDouble
+tried : (c : tie.After-doubled-increment-of2) → answer (looked (trying c .before)) ≡ says (cond (within c) double step)
 tried c =
-    let a = even c .before in
-    let e = slow (a .before) in
+    let a = trying c .before in
+    let e = looked a in
     let x = c .before .before .before .doubled-increment-of .ensures (d e .x) (sym (toZ-ofZ (fits-x e .b))) (sym (toZ-ofZ (fits-x e .c))) in
     let y = c .doubled-increment-of2 .ensures (d e .y) (sym (toZ-ofZ (fits-y e .b))) (sym (toZ-ofZ (fits-y e .c))) in
-    rule-2 (a .before .before .before)
-    ∙ simp (both (a .before), sym (a .is-aligned .ensures), not-false (a .is-aligned .result) (even c .if5 .left), sym x, sym y)
+    asked a ∙ simp (not-false (asks a) (trying c .if3 .left), sym x, sym y)
 
-returns-6 : tie.Need-returns-6
-returns-6 c = sym (tried (c .before) ∙ simp (c .if6 .taken))
+returns-4 : tie.Need-returns-4
+returns-4 c = sym (tried (c .before) ∙ simp (c .if4 .taken))
 
-returns-7 : tie.Need-returns-7
-returns-7 c = sym (tried (c .before) ∙ simp (c .if6 .left))
+returns-5 : tie.Need-returns-5
+returns-5 c = sym (tried (c .before) ∙ simp (c .if4 .left))
 
 pub next-spec : {M : Type 1} → statement M
 next-spec =
@@ -163,11 +157,9 @@ next-spec =
     increment-of-requires
     increment-of-requires-2
     returns-2
-    returns-3
-    returns-4
     is-aligned-requires
-    returns-5
+    returns-3
     doubled-increment-of-requires
     doubled-increment-of-requires-2
-    returns-6
-    returns-7)
+    returns-4
+    returns-5)
