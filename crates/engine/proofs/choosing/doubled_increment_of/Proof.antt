@@ -1,6 +1,6 @@
--- The doubled c, shifted by one level less, in magnitude.
+-- What is reckoned is the right side of `doubled-from-b-and-c`, and fits 64 bits.
 use mathlib.Core.Path.{sym, ap, ap₂, _∙_}
-use Prim.Native.Nat.{_+_, _-_}
+use Prim.Native.Nat.{ℕ, _+_, _-_}
 use lib.IntN.{ℤ, natAbs, _+ℤ_}
 use mir.Syntax.{w64}
 use borrow.Author.Needs.{needs}
@@ -10,11 +10,17 @@ use Rattle.coordinate.proofs.Increment.{doubled-from-b-and-c}
 use Rattle.engine.proofs.choosing.doubled_increment_of.Statement.{statement}
 use Rattle.engine.proofs.choosing.doubled_increment_of.Tie as tie
 
-abbrev doubled : (c : tie.Start) → Num 4294967296 (c .args .c +ℤ (c .args .b >> (c .args .n + 1)))
-doubled c = plus (local w64 tt (field (c .fits .c))) (local w64 tt (shift (c .args .n + 1) (local w64 tt (field (c .fits .b)))))
+abbrev b-by : tie.Start → ℕ
+b-by c = c .args .n + 1
 
-abbrev shifted : (c : tie.Start) → Num 4294967296 ((c .args .c +ℤ (c .args .b >> (c .args .n + 1))) >> (c .args .n - 1))
-shifted c = local w64 tt (shift (c .args .n - 1) (local w64 tt (doubled c)))
+abbrev c-by : tie.Start → ℕ
+c-by c = c .args .n - 1
+
+abbrev doubled : (c : tie.Start) → Num 4294967296 (c .args .c +ℤ (c .args .b >> b-by c))
+doubled c = plus (local w64 tt (field (c .fits .c))) (local w64 tt (shift (b-by c) (local w64 tt (field (c .fits .b)))))
+
+abbrev shifted : (c : tie.Start) → Num 4294967296 ((c .args .c +ℤ (c .args .b >> b-by c)) >> c-by c)
+shifted c = local w64 tt (shift (c-by c) (local w64 tt (doubled c)))
 
 cast-doubled : tie.Need-cast-doubled
 cast-doubled c = search signed
@@ -48,10 +54,10 @@ magnitude-requires c κs = search needs
 
 returns : tie.Need-returns
 returns c r b-is c-is =
-    let n = c .before .args .n in
+    let s = c .before in
     c .magnitude .ensures
-    ∙ ap natAbs (shifted (c .before) .is ∙ ap₂ (λ (y z : ℤ). (z +ℤ (y >> (n + 1))) >> (n - 1)) (sym b-is) (sym c-is))
-    ∙ sym (doubled-from-b-and-c n r)
+    ∙ ap natAbs (shifted s .is ∙ ap₂ (λ (y z : ℤ). (z +ℤ (y >> b-by s)) >> c-by s) (sym b-is) (sym c-is))
+    ∙ sym (doubled-from-b-and-c (s .args .n) r)
 
 pub doubled-increment-of-spec : {M : Type 1} → statement M
 doubled-increment-of-spec =
