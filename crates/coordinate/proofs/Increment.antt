@@ -9,12 +9,12 @@ use Rattle.coordinate.specs.Increment.{increment, doubledIncrement}
 use Rattle.coordinate.proofs.Back.{two-above}
 use Rattle.coordinate.proofs.Floors.{Floor, floor-shift}
 
--- After doubling it is (c + (b >> (n + 1))) >> (n − 1): a and d, and the doubled a, b and d, are not looked at.
+-- after doubling, from b and c alone: (c + (b >> (n + 1))) >> (n − 1)
 pub doubled-from-b-and-c : (n : ℕ) (r : Registers) → doubledIncrement n r ≡ natAbs ((r .c +ℤ (r .b >> (n + 1))) >> (n - 1))
 unfolding doubledIncrement increment turn
 doubled-from-b-and-c n r = refl
 
--- at level n + 1, where nothing is cut off below 0
+-- the same at level n + 1, so that no difference can be cut off at 0
 pub doubled-increment : (n : ℕ) (r : Registers) → doubledIncrement (suc n) r ≡ natAbs ((r .c +ℤ (r .b >> (n + 2))) >> n)
 doubled-increment n r =
     let coarser : suc n - 1 ≡ n = omega arith in

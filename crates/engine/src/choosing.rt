@@ -1,11 +1,11 @@
-// The increments of a coordinate, by which the next operation is chosen. Each is reckoned from the registers that it needs, without a copy of the others.
+// The increments of a coordinate, by which the next operation is chosen, each from the registers that it needs.
 ghost use mathlib.Core.Path.{_≡_};
 ghost use Prim.Native.Nat.{_≤_};
 ghost use Rattle.rules.specs.Rules.{finest};
 ghost use Rattle.coordinate.specs.declared.Registers.{Registers};
 ghost use Rattle.coordinate.specs.Increment.{increment, doubledIncrement};
 
-// That of any registers with this c.
+// By c, whatever the other registers are.
 pub(crate) fn increment_of(c: i32, n: u32) -> u64
     requires { ⌜ n ≤ finest ⌝ }
     ensures { λ k. ⌜ ((r : Registers) → r .c ≡ c → k ≡ increment n r) ⌝ }
@@ -13,7 +13,7 @@ pub(crate) fn increment_of(c: i32, n: u32) -> u64
     words::magnitude((c >> n) as i64)
 }
 
-// What it would be after doubling, for any registers with this b and this c. In 64 bits, since the doubled c of made-up registers may leave 32.
+// After doubling: by b and c, whatever the others are. In 64 bits, since of registers that a caller made up the doubled c may leave 32.
 pub(crate) fn doubled_increment_of(b: i32, c: i32, n: u32) -> u64
     requires { ⌜ (1 ≤ n) × (n ≤ finest) ⌝ }
     ensures { λ k. ⌜ ((r : Registers) → r .b ≡ b → r .c ≡ c → k ≡ doubledIncrement n r) ⌝ }
