@@ -74,7 +74,7 @@ literal n = plain (size-of n)
 abbrev pub kept : (w : Width) {N : ℕ} {z : ℤ} → SFits w z → Num N z → Num N z
 kept w f n = record { machine = toZ w (ofZ w (n .machine)); is = reads-back (n .is) f; small = n .small }
 
--- by its bound
+-- the same by its bound
 abbrev pub local : (w : Width) {N : ℕ} {z : ℤ} → T (ltb N (2 ^ hbits w)) → Num N z → Num N z
 local w t n = kept w (size-fits t (n .small)) n
 
@@ -92,7 +92,7 @@ shift k n =
       small = size-shift (2 ^ k) (pow-pos k) (n .small);
     }
 
--- it fits where the number does
+-- the shifted number fits where the number does
 pub shift-fits : {w : Width} {z : ℤ} (k : ℕ) → SFits w z → SFits w (shrZ z (2 ^ k))
 shift-fits {z = z} k = sfits-le (mag-shr z (2 ^ k))
 
