@@ -63,23 +63,26 @@ table =
     ∷ yes (limits 1 0)
     ∷ no (limits 0 0)
     ∷ no (limits 1 2)
-    -- 1 to 64 segments, 2(3S+1) numbers
-    ∷ yes (size 1 8)
-    ∷ no (size 1 7)
-    ∷ no (size 0 2)
-    ∷ yes (size 64 386)
-    ∷ no (size 65 392)
+    -- 1 to 64 segments, 3(3S+1) numbers: those of two coordinates are too few
+    ∷ yes (size 1 12)
+    ∷ no (size 1 11)
+    ∷ no (size 1 8)
+    ∷ no (size 0 3)
+    ∷ yes (size 64 579)
+    ∷ no (size 65 588)
     -- each number of a path's points is a coordinate, the first and the last too
-    ∷ yes (points (negsuc 16383 ∷ pos 16383 ∷ pos 16383 ∷ negsuc 16383 ∷ []))
-    ∷ no (points (negsuc 16384 ∷ pos 0 ∷ pos 0 ∷ pos 0 ∷ []))
-    ∷ no (points (pos 0 ∷ pos 16384 ∷ pos 0 ∷ pos 0 ∷ []))
-    ∷ no (points (pos 0 ∷ pos 0 ∷ pos 0 ∷ pos 16384 ∷ []))
-    -- x and x, y and y of neighbouring points differ by at most 682: not x and y of one point, nor points further on
-    ∷ yes (chained (pos 0 ∷ pos 16383 ∷ pos 682 ∷ pos 15701 ∷ pos 1364 ∷ pos 15019 ∷ []))
-    ∷ no (chained (pos 0 ∷ pos 0 ∷ pos 683 ∷ pos 0 ∷ pos 683 ∷ pos 0 ∷ []))
-    ∷ no (chained (pos 0 ∷ pos 0 ∷ pos 0 ∷ pos 683 ∷ pos 0 ∷ pos 683 ∷ []))
-    ∷ no (chained (pos 0 ∷ pos 0 ∷ pos 0 ∷ pos 0 ∷ pos 683 ∷ pos 0 ∷ []))
-    ∷ no (chained (pos 0 ∷ pos 0 ∷ pos 0 ∷ pos 0 ∷ pos 0 ∷ pos 683 ∷ []))
+    ∷ yes (points (negsuc 16383 ∷ pos 16383 ∷ pos 16383 ∷ pos 16383 ∷ negsuc 16383 ∷ negsuc 16383 ∷ []))
+    ∷ no (points (negsuc 16384 ∷ pos 0 ∷ pos 0 ∷ pos 0 ∷ pos 0 ∷ pos 0 ∷ []))
+    ∷ no (points (pos 0 ∷ pos 16384 ∷ pos 0 ∷ pos 0 ∷ pos 0 ∷ pos 0 ∷ []))
+    ∷ no (points (pos 0 ∷ pos 0 ∷ pos 16384 ∷ pos 0 ∷ pos 0 ∷ pos 0 ∷ []))
+    ∷ no (points (pos 0 ∷ pos 0 ∷ pos 0 ∷ pos 0 ∷ pos 0 ∷ pos 16384 ∷ []))
+    -- x and x, y and y, width and width of neighbouring points differ by at most 682: not two numbers of one point, nor points further on
+    ∷ yes (chained (pos 0 ∷ pos 16383 ∷ negsuc 16383 ∷ pos 682 ∷ pos 15701 ∷ negsuc 15701 ∷ pos 1364 ∷ pos 15019 ∷ negsuc 15019 ∷ []))
+    ∷ no (chained (pos 0 ∷ pos 0 ∷ pos 0 ∷ pos 683 ∷ pos 0 ∷ pos 0 ∷ pos 683 ∷ pos 0 ∷ pos 0 ∷ []))
+    ∷ no (chained (pos 0 ∷ pos 0 ∷ pos 0 ∷ pos 0 ∷ pos 683 ∷ pos 0 ∷ pos 0 ∷ pos 683 ∷ pos 0 ∷ []))
+    ∷ no (chained (pos 0 ∷ pos 0 ∷ pos 0 ∷ pos 0 ∷ pos 0 ∷ pos 683 ∷ pos 0 ∷ pos 0 ∷ pos 683 ∷ []))
+    ∷ no (chained (pos 0 ∷ pos 0 ∷ pos 0 ∷ pos 0 ∷ pos 0 ∷ pos 0 ∷ pos 683 ∷ pos 0 ∷ pos 0 ∷ []))
+    ∷ no (chained (pos 0 ∷ pos 0 ∷ pos 0 ∷ pos 0 ∷ pos 0 ∷ pos 0 ∷ pos 0 ∷ pos 0 ∷ pos 683 ∷ []))
     ∷ []
 
 -- ---- one test for all

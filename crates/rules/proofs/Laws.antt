@@ -55,11 +55,11 @@ hold-limits {upper} {lower} l =
 pub standard-limits : (standardUpper ≡ 65536) × (standardLower ≡ 32768)
 standard-limits = (refl, refl)
 
--- 1 to 64 segments, and 2(3S + 1) numbers
+-- 1 to 64 segments, and 3(3S + 1) numbers
 pub record Sized (S numbers : ℕ) : Type 0 where
   pub some : 1 ≤ S
   pub most : S ≤ 64
-  pub size : numbers ≡ 2 * (3 * S + 1)
+  pub size : numbers ≡ 3 * (3 * S + 1)
 
 pub size-holds : (S numbers : ℕ) → isSize S numbers ≡ true → Sized S numbers
 unfolding isSize isSegments

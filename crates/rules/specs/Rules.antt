@@ -38,12 +38,12 @@ standardUpper = 65536
 abbrev pub standardLower : ℕ
 standardLower = 32768
 
--- 14: a path has 1 to 64 segments, and 3S + 1 points of two coordinates
+-- 14: a path has 1 to 64 segments, and 3S + 1 points of three coordinates: x, y and the width
 abbrev pub degree : ℕ
 degree = 3
 
 abbrev pub coordinates : ℕ
-coordinates = 2
+coordinates = 3
 
 abbrev pub mostSegments : ℕ
 mostSegments = 64
@@ -62,7 +62,7 @@ isSize S numbers = isSegments S && eqb numbers (pointNumbers S)
 unfoldable pub headRefusal : ℕ → ℕ → ℕ → ℕ
 headRefusal F S n = unless (isSegments S) 14 (unless (isLevel F n) 3 0)
 
--- ---- 1 and 2 over the points of a whole path, as numbers: x0, y0, x1, y1, ..
+-- ---- 1 and 2 over the points of a whole path, as numbers: x0, y0, width0, x1, y1, width1, ..
 
 -- 1: each number is a coordinate
 unfoldable pub arePoints : List ℤ → Bool

@@ -13,7 +13,7 @@ pub const STANDARD_LOWER: u32 = 32768;
 // Segment k has the points from DEGREE * k to DEGREE * k + DEGREE, of so many numbers each.
 pub const DEGREE: usize = 3;
 
-pub const COORDINATES: usize = 2;
+pub const COORDINATES: usize = 3;
 
 pub const MOST_SEGMENTS: u32 = 64;
 
