@@ -12,7 +12,7 @@ use Rattle.coordinate.specs.Course.{cubic}
 use Rattle.coordinate.specs.Registers.{startRegisters}
 use Rattle.coordinate.specs.Shown.{pixel}
 use Rattle.coordinate.proofs.Ends.{first-shown}
-use Rattle.operations.specs.Coordinates.{Coordinate, in-x, in-y, every}
+use Rattle.operations.specs.Coordinates.{Coordinate, in-x, in-y, in-width, every}
 use Rattle.operations.specs.Refusals.{startRefusal}
 use Rattle.operations.proofs.Every.{every-true}
 use Rattle.engine.specs.declared.Moved.{Moved}
@@ -48,8 +48,8 @@ unfolding startRegisters curve
 first-pixel n p = first-shown (startRegisters n (curve p)) (p .p0) refl
 
 pub start-shows : (F : ℕ) (p : Coordinate → Control) (n : ℕ) → startRefusal F p n ≡ 0
-    → point (started F p n .drawing) ≡ record { x = p in-x .p0; y = p in-y .p0 }
+    → point (started F p n .drawing) ≡ record { x = p in-x .p0; y = p in-y .p0; width = p in-width .p0 }
 unfolding point
 start-shows F p n e =
     ap (λ (m : Moved). point (m .drawing)) (start-begins F p n e)
-    ∙ (λ i. record { x = first-pixel n (p in-x) i; y = first-pixel n (p in-y) i })
+    ∙ (λ i. record { x = first-pixel n (p in-x) i; y = first-pixel n (p in-y) i; width = first-pixel n (p in-width) i })

@@ -19,9 +19,9 @@ unfolding called landed
 call-landed F op d e = ap (λ (k : ℕ). moved k d (turned F op d)) (first-on _ (registersRefusal (λ c. of c (turned F op d))) e)
 
 -- where level and q let through, the turned coordinates land
-pub call-lands : (F : ℕ) (op : Operation) (d : Drawing) (x y : Registers) (q : ℕ) (m : Moved) → callRefusal F op (d .level) (d .q) ≡ 0
-    → x ≡ turn op (d .level) (d .x) → y ≡ turn op (d .level) (d .y) → q ≡ newPosition F op (d .level) (d .q)
-    → m ≡ landed d (record { level = newLevel op (d .level); q = q; x = x; y = y }) → m ≡ called F op d
+pub call-lands : (F : ℕ) (op : Operation) (d : Drawing) (x y width : Registers) (q : ℕ) (m : Moved) → callRefusal F op (d .level) (d .q) ≡ 0
+    → x ≡ turn op (d .level) (d .x) → y ≡ turn op (d .level) (d .y) → width ≡ turn op (d .level) (d .width) → q ≡ newPosition F op (d .level) (d .q)
+    → m ≡ landed d (record { level = newLevel op (d .level); q = q; x = x; y = y; width = width }) → m ≡ called F op d
 unfolding turned
-call-lands F op d x y q m e in-x in-y on l =
-    l ∙ (λ i. landed d (record { level = newLevel op (d .level); q = on i; x = in-x i; y = in-y i })) ∙ sym (call-landed F op d e)
+call-lands F op d x y width q m e x-turned y-turned width-turned on l =
+    l ∙ (λ i. landed d (record { level = newLevel op (d .level); q = on i; x = x-turned i; y = y-turned i; width = width-turned i })) ∙ sym (call-landed F op d e)

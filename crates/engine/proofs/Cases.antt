@@ -1,5 +1,5 @@
 -- The starred cases C to J of document 01, as one statement over a table of them. A row has the control points of x, the start level and
--- the calls, each case from its own start; and the document's numbers. The other coordinate is 0 throughout.
+-- the calls, each case from its own start; and the document's numbers. The other coordinates are 0 throughout.
 use mathlib.Core.Path.{_≡_}
 use mathlib.Core.Bool.{Bool, true, cond}
 use mathlib.Core.List.{List, [], _∷_}
@@ -12,6 +12,7 @@ use Rattle.numbers.proofs.Tests.{eqbℤ→eq}
 use Rattle.numbers.specs.Tables.{All, every}
 use Rattle.numbers.proofs.Tables.{tested}
 use Rattle.rules.specs.Rules.{finest, isCoordinate, areNeighbours, isLevel}
+use Rattle.coordinate.specs.declared.Registers.{Registers}
 use Rattle.coordinate.specs.declared.Control.{Control}
 use Rattle.coordinate.specs.Curve.{curve}
 use Rattle.coordinate.specs.Points.{areCoordinates, areNear}
@@ -44,7 +45,7 @@ abbrev pub flat : ℤ → Control
 flat z = record { p0 = z; p1 = z; p2 = z; p3 = z }
 
 abbrev pub reached : Row → Moved
-reached w = run (started finest (pick (w .points) (flat (pos 0))) (w .level)) (w .calls)
+reached w = run (started finest (pick (w .points) (flat (pos 0)) (flat (pos 0))) (w .level)) (w .calls)
 
 -- a number is what the document says, where it says something
 abbrev pub Agrees : {A : Type 0} → Option A → A → Type 0
@@ -59,6 +60,7 @@ pub record Holds (w : Row) : Type 0 where
   pub c : Agrees (w .c) (reached w .drawing .x .c)
   pub d : Agrees (w .d) (reached w .drawing .x .d)
   pub y : reached w .drawing .y ≡ zeros
+  pub width : reached w .drawing .width ≡ zeros
 
 -- ---- the table
 
@@ -119,6 +121,27 @@ pub agreed : {A : Type 0} (eq : A → A → Bool) → ((x y : A) → T (eq x y) 
 agreed eq h none x t = tt
 agreed eq h (some y) x t = h x y t
 
+-- all of some tests
+abbrev all : List Bool → Bool
+all = every (λ (b : Bool). b)
+
+each : (ts : List Bool) → T (all ts) → All T ts
+each ts t = tested T (λ (b : Bool). b) (λ (b : Bool) t. t) ts t
+
+-- the registers of a coordinate that stays 0
+abbrev still : Registers → List Bool
+still r = eqbℤ (r .a) (pos 0) ∷ eqbℤ (r .b) (pos 0) ∷ eqbℤ (r .c) (pos 0) ∷ eqbℤ (r .d) (pos 0) ∷ []
+
+still-zeros : (r : Registers) → T (all (still r)) → r ≡ zeros
+still-zeros r t =
+    let ts = each (still r) t in
+    λ i. record {
+      a = eqbℤ→eq (r .a) (pos 0) (ts .0) i;
+      b = eqbℤ→eq (r .b) (pos 0) (ts .1 .0) i;
+      c = eqbℤ→eq (r .c) (pos 0) (ts .1 .1 .0) i;
+      d = eqbℤ→eq (r .d) (pos 0) (ts .1 .1 .1 .0) i;
+    }
+
 abbrev tests : Row → List Bool
 tests w =
     eqb (reached w .refusal) (w .refusal)
@@ -127,21 +150,18 @@ tests w =
     ∷ agrees eqbℤ (w .b) (reached w .drawing .x .b)
     ∷ agrees eqbℤ (w .c) (reached w .drawing .x .c)
     ∷ agrees eqbℤ (w .d) (reached w .drawing .x .d)
-    ∷ eqbℤ (reached w .drawing .y .a) (pos 0)
-    ∷ eqbℤ (reached w .drawing .y .b) (pos 0)
-    ∷ eqbℤ (reached w .drawing .y .c) (pos 0)
-    ∷ eqbℤ (reached w .drawing .y .d) (pos 0)
+    ∷ all (still (reached w .drawing .y))
+    ∷ all (still (reached w .drawing .width))
     ∷ []
 
 abbrev right : Row → Bool
-right w = every (λ (b : Bool). b) (tests w)
+right w = all (tests w)
 
 right-holds : (w : Row) → T (right w) → Holds w
 right-holds w t =
     let m = reached w in
     let r = m .drawing .x in
-    let y = m .drawing .y in
-    let ts = tested T (λ (b : Bool). b) (λ (b : Bool) t. t) (tests w) t in
+    let ts = each (tests w) t in
     record {
       refusal = eqb→eq (m .refusal) (w .refusal) (ts .0);
       q = agreed eqb eqb→eq (w .q) (m .drawing .q) (ts .1 .0);
@@ -149,14 +169,8 @@ right-holds w t =
       b = agreed eqbℤ eqbℤ→eq (w .b) (r .b) (ts .1 .1 .1 .0);
       c = agreed eqbℤ eqbℤ→eq (w .c) (r .c) (ts .1 .1 .1 .1 .0);
       d = agreed eqbℤ eqbℤ→eq (w .d) (r .d) (ts .1 .1 .1 .1 .1 .0);
-      y =
-          let u = ts .1 .1 .1 .1 .1 .1 in
-          λ i. record {
-            a = eqbℤ→eq (y .a) (pos 0) (u .0) i;
-            b = eqbℤ→eq (y .b) (pos 0) (u .1 .0) i;
-            c = eqbℤ→eq (y .c) (pos 0) (u .1 .1 .0) i;
-            d = eqbℤ→eq (y .d) (pos 0) (u .1 .1 .1 .0) i;
-          };
+      y = still-zeros (m .drawing .y) (ts .1 .1 .1 .1 .1 .1 .0);
+      width = still-zeros (m .drawing .width) (ts .1 .1 .1 .1 .1 .1 .1 .0);
     }
 
 pub starred : All Holds table

@@ -50,6 +50,7 @@ pub refused-start-gives-zeros : (F : ℕ) (p : Coordinate → Control) (n : ℕ)
       q = 0;
       x = record { a = pos 0; b = pos 0; c = pos 0; d = pos 0 };
       y = record { a = pos 0; b = pos 0; c = pos 0; d = pos 0 };
+      width = record { a = pos 0; b = pos 0; c = pos 0; d = pos 0 };
     }
 unfolding started
 refused-start-gives-zeros F p n = moved-refused (startRefusal F p n) nothingDrawn (firstDrawing (λ c. cubic (p c)) n)

@@ -4,7 +4,7 @@ use Prim.Native.Nat.{ℕ}
 use Rattle.coordinate.specs.Course.{Course}
 use Rattle.coordinate.specs.Registers.{Operation, startRegisters, turn}
 use Rattle.coordinate.specs.Shown.{pixel}
-use Rattle.operations.specs.Coordinates.{Coordinate, in-x, in-y, pick}
+use Rattle.operations.specs.Coordinates.{Coordinate, in-x, in-y, in-width, pick}
 use Rattle.engine.specs.declared.Drawing.{Drawing}
 use Rattle.engine.specs.Drawing.{of, turned}
 use Rattle.engine.specs.Start.{firstDrawing}
@@ -13,13 +13,16 @@ use Rattle.engine.specs.Shown.{point}
 pub first-of : (p : Coordinate → Course) (n : ℕ) (c : Coordinate) → of c (firstDrawing p n) ≡ startRegisters n (p c .curve)
 first-of p n in-x = refl
 first-of p n in-y = refl
+first-of p n in-width = refl
 
 pub turned-of : (F : ℕ) (op : Operation) (d : Drawing) (c : Coordinate) → of c (turned F op d) ≡ turn op (d .level) (of c d)
 unfolding turned
 turned-of F op d in-x = refl
 turned-of F op d in-y = refl
+turned-of F op d in-width = refl
 
-pub shown-of : (d : Drawing) (c : Coordinate) → pick (point d .x) (point d .y) c ≡ pixel (of c d)
+pub shown-of : (d : Drawing) (c : Coordinate) → pick (point d .x) (point d .y) (point d .width) c ≡ pixel (of c d)
 unfolding point
 shown-of d in-x = refl
 shown-of d in-y = refl
+shown-of d in-width = refl

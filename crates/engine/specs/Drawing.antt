@@ -3,7 +3,7 @@ use Prim.Native.Nat.{ℕ}
 use Rattle.rules.specs.Refusals.{firstOf, refusalOr}
 use Rattle.coordinate.specs.declared.Registers.{Registers}
 use Rattle.coordinate.specs.Registers.{Operation, turn}
-use Rattle.operations.specs.Coordinates.{Coordinate, in-x, in-y}
+use Rattle.operations.specs.Coordinates.{Coordinate, in-x, in-y, in-width}
 use Rattle.operations.specs.Position.{newLevel, newPosition}
 use Rattle.operations.specs.Refusals.{callRefusal, registersRefusal}
 use Rattle.engine.specs.declared.Drawing.{Drawing}
@@ -13,6 +13,7 @@ use Rattle.engine.specs.declared.Moved.{Moved}
 abbrev pub of : Coordinate → Drawing → Registers
 of in-x d = d .x
 of in-y d = d .y
+of in-width d = d .width
 
 -- the drawing after an operation, with registers of any size
 unfoldable pub turned : ℕ → Operation → Drawing → Drawing
@@ -22,6 +23,7 @@ turned F op d =
       q = newPosition F op (d .level) (d .q);
       x = turn op (d .level) (d .x);
       y = turn op (d .level) (d .y);
+      width = turn op (d .level) (d .width);
     }
 
 -- a refusal gives back the drawing that was given

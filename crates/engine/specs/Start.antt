@@ -5,7 +5,7 @@ use Rattle.coordinate.specs.declared.Registers.{Registers}
 use Rattle.coordinate.specs.declared.Control.{Control}
 use Rattle.coordinate.specs.Course.{Course, cubic}
 use Rattle.coordinate.specs.Registers.{startRegisters}
-use Rattle.operations.specs.Coordinates.{Coordinate, in-x, in-y}
+use Rattle.operations.specs.Coordinates.{Coordinate, in-x, in-y, in-width}
 use Rattle.operations.specs.Refusals.{startRefusal}
 use Rattle.engine.specs.declared.Drawing.{Drawing}
 use Rattle.engine.specs.declared.Moved.{Moved}
@@ -16,11 +16,18 @@ abbrev pub zeros : Registers
 zeros = record { a = pos 0; b = pos 0; c = pos 0; d = pos 0 }
 
 abbrev pub nothingDrawn : Drawing
-nothingDrawn = record { level = 0; q = 0; x = zeros; y = zeros }
+nothingDrawn = record { level = 0; q = 0; x = zeros; y = zeros; width = zeros }
 
 -- at level n and q = 0
 abbrev pub firstDrawing : (Coordinate → Course) → ℕ → Drawing
-firstDrawing p n = record { level = n; q = 0; x = startRegisters n (p in-x .curve); y = startRegisters n (p in-y .curve) }
+firstDrawing p n =
+    record {
+      level = n;
+      q = 0;
+      x = startRegisters n (p in-x .curve);
+      y = startRegisters n (p in-y .curve);
+      width = startRegisters n (p in-width .curve);
+    }
 
 -- a refused start gives a drawing with every number 0
 unfoldable pub started : ℕ → (Coordinate → Control) → ℕ → Moved

@@ -39,6 +39,7 @@ pub struct Drawing {
     pub q: u32,
     pub x: Registers,
     pub y: Registers,
+    pub width: Registers,
 }
 
 // A drawing, and the number by which a call was refused: 0 where it was not.
@@ -55,18 +56,19 @@ pub enum Next {
     Refused(u32),
 }
 
-// The point shown.
+// The point shown: its pixel, and the width there.
 pub struct Shown {
     pub x: i32,
     pub y: i32,
+    pub width: i32,
 }
 
 impl Drawing {
     // The drawing at the start of a curve. Refuses 1, 2, 3, with every number of the drawing 0.
-    pub fn start(x: Control, y: Control, level: u32) -> Moved
-        ensures { λ r. ⌜ r ≡ started finest (pick x y) level ⌝ }
+    pub fn start(x: Control, y: Control, width: Control, level: u32) -> Moved
+        ensures { λ r. ⌜ r ≡ started finest (pick x y width) level ⌝ }
     {
-        let refusal = start_refusal(x, y, level);
+        let refusal = start_refusal(x, y, width, level);
         if refusal != 0 {
             return refuse(refusal, nothing());
         }
@@ -77,6 +79,7 @@ impl Drawing {
                 q: 0,
                 x: start_one(x, level),
                 y: start_one(y, level),
+                width: start_one(width, level),
             },
         }
     }
@@ -93,7 +96,8 @@ impl Drawing {
         }
         let x = halve_one(self.x, level);
         let y = halve_one(self.y, level);
-        land(self, level + 1, q, x, y)
+        let width = halve_one(self.width, level);
+        land(self, level + 1, q, x, y, width)
     }
 
     // One level coarser. Refuses 10, 5, 7, 8, 10, with the drawing as it was.
@@ -108,7 +112,8 @@ impl Drawing {
         }
         let x = double_one(self.x, level);
         let y = double_one(self.y, level);
-        land(self, level - 1, q, x, y)
+        let width = double_one(self.width, level);
+        land(self, level - 1, q, x, y, width)
     }
 
     // One step on. Refuses 10, 5, 10, with the drawing as it was.
@@ -123,10 +128,11 @@ impl Drawing {
         }
         let x = step_one(self.x, level);
         let y = step_one(self.y, level);
-        land(self, level, q + stride(level), x, y)
+        let width = step_one(self.width, level);
+        land(self, level, q + stride(level), x, y, width)
     }
 
-    // The operation that the three rules choose under these limits. Refuses 4, 10, 5.
+    // The operation that the three rules choose under these limits, by x and y alone. Refuses 4, 10, 5.
     pub fn next(self, upper: u32, lower: u32) -> Next
         ensures { λ r. ⌜ said r ≡ choice finest upper lower self ⌝ }
     {
@@ -161,13 +167,14 @@ impl Drawing {
         self.next(rules::STANDARD_UPPER, rules::STANDARD_LOWER)
     }
 
-    // The pixel of any drawing: the nearest to d in each coordinate, halves upward.
+    // The point of any drawing: the nearest to d in each coordinate, halves upward.
     pub fn shown(self) -> Shown
         ensures { λ r. ⌜ r ≡ point self ⌝ }
     {
         Shown {
             x: pixel_of(self.x),
             y: pixel_of(self.y),
+            width: pixel_of(self.width),
         }
     }
 }

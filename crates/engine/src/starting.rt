@@ -13,14 +13,14 @@ use crate::Drawing;
 use coordinate::Control;
 use coordinate::Registers;
 
-pub(crate) fn start_refusal(x: Control, y: Control, level: u32) -> u32
-    ensures { λ r. ⌜ r ≡ startRefusal finest (pick x y) level ⌝ }
+pub(crate) fn start_refusal(x: Control, y: Control, width: Control, level: u32) -> u32
+    ensures { λ r. ⌜ r ≡ startRefusal finest (pick x y width) level ⌝ }
 {
-    let inside = coordinates(x) & coordinates(y);
+    let inside = coordinates(x) & coordinates(y) & coordinates(width);
     if !inside {
         return 1;
     }
-    let close = near(x) & near(y);
+    let close = near(x) & near(y) & near(width);
     if !close {
         return 2;
     }
@@ -71,17 +71,20 @@ pub(crate) fn start_one(p: Control, n: u32) -> Registers
 pub(crate) fn nothing() -> Drawing
     ensures { λ r. ⌜ r ≡ nothingDrawn ⌝ }
 {
-    let x = Registers {
+    let zeros = Registers {
         a: 0,
         b: 0,
         c: 0,
         d: 0,
     };
-    let y = x;
+    let x = zeros;
+    let y = zeros;
+    let width = zeros;
     Drawing {
         level: 0,
         q: 0,
         x: x,
         y: y,
+        width: width,
     }
 }

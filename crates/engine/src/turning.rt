@@ -72,16 +72,17 @@ pub(crate) fn step_one(r: Registers, n: u32) -> Wide
 }
 
 // The new drawing where its registers fit 32 bits; otherwise the old one, refused 10.
-pub(crate) fn land(old: Drawing, level: u32, q: u32, x: Wide, y: Wide) -> Moved
-    ensures { λ r. ⌜ r ≡ landed old (record { level = level; q = q; x = narrowed x; y = narrowed y }) ⌝ }
+pub(crate) fn land(old: Drawing, level: u32, q: u32, x: Wide, y: Wide, width: Wide) -> Moved
+    ensures { λ r. ⌜ r ≡ landed old (record { level = level; q = q; x = narrowed x; y = narrowed y; width = narrowed width }) ⌝ }
 {
-    let all_fit = fit(x) & fit(y);
+    let all_fit = fit(x) & fit(y) & fit(width);
     if all_fit {
         let new = Drawing {
             level: level,
             q: q,
             x: narrow(x),
             y: narrow(y),
+            width: narrow(width),
         };
         return Moved {
             refusal: 0,

@@ -33,7 +33,7 @@ code halve = 0
 code double = 1
 code step = 2
 
--- x has b and c, y has c; the other registers are 0
+-- x has b and c, y has c, the width has b and c; the other registers are 0
 pub record Choosing : Type 0 where
   pub upper : ℕ
   pub lower : ℕ
@@ -42,13 +42,25 @@ pub record Choosing : Type 0 where
   pub b : ℤ
   pub c : ℤ
   pub c-of-y : ℤ
+  pub b-of-width : ℤ
+  pub c-of-width : ℤ
   pub operation : Operation
 
+abbrev beside : ℤ → ℤ → ℕ → ℕ → ℕ → ℕ → ℤ → ℤ → ℤ → Operation → Choosing
+beside v w upper lower n q b c y op =
+    record { upper = upper; lower = lower; level = n; q = q; b = b; c = c; c-of-y = y; b-of-width = v; c-of-width = w; operation = op }
+
+-- beside a width at rest
 abbrev choosing : ℕ → ℕ → ℕ → ℕ → ℤ → ℤ → ℤ → Operation → Choosing
-choosing upper lower n q b c y op = record { upper = upper; lower = lower; level = n; q = q; b = b; c = c; c-of-y = y; operation = op }
+choosing = beside (pos 0) (pos 0)
 
 abbrev answered : Choosing → Operation
-answered w = choose 11 (w .upper) (w .lower) (w .level) (w .q) (pick (registers (pos 0) (w .b) (w .c) (pos 0)) (registers (pos 0) (pos 0) (w .c-of-y) (pos 0)))
+answered w =
+    choose 11 (w .upper) (w .lower) (w .level) (w .q)
+    (pick
+    (registers (pos 0) (w .b) (w .c) (pos 0))
+    (registers (pos 0) (pos 0) (w .c-of-y) (pos 0))
+    (registers (pos 0) (w .b-of-width) (w .c-of-width) (pos 0)))
 
 unfoldable pub choices : List Choosing
 choices =
@@ -77,6 +89,12 @@ choices =
     ∷ choosing 65536 65536 1 0 (negsuc 0) (pos 65537) (pos 0) double
     ∷ choosing 32768 32768 1 0 (pos 0) (pos 0) (pos 32768) double
     ∷ choosing 32768 32768 1 0 (pos 0) (pos 0) (pos 32769) step
+    -- the width takes no part: it may be larger than upper, not smaller than lower, or larger than upper after doubling
+    ∷ beside (pos 0) (pos 134219776) 65536 32768 1 0 (pos 0) (pos 65536) (pos 0) step
+    ∷ beside (pos 0) (pos 134219776) 65536 32768 1 0 (pos 0) (pos 0) (pos 0) double
+    ∷ beside (pos 0) (pos 65536) 65536 32768 1 0 (pos 0) (pos 0) (pos 0) double
+    ∷ beside (pos 8) (pos 65535) 65536 32768 1 0 (pos 0) (pos 0) (pos 0) double
+    ∷ beside (pos 0) (pos 0) 65536 32768 1 0 (pos 0) (pos 131074) (pos 0) halve
     ∷ []
 
 abbrev pub Chooses : Choosing → Type 0
@@ -99,16 +117,19 @@ pub record Answer : Type 0 where
 abbrev answer : ℕ → ℕ → Answer
 answer answered number = record { answered = answered; number = number }
 
--- an operation at level n and position q, on the registers of x and y
-abbrev of : Operation → ℕ → ℕ → Registers → Registers → ℕ
-of op n q x y = firstOf (callRefusal 11 op n q) (registersRefusal (λ c. turn op n (pick x y c)))
+-- an operation at level n and position q, on the registers of x, y and the width
+abbrev of : Operation → ℕ → ℕ → Registers → Registers → Registers → ℕ
+of op n q x y width = firstOf (callRefusal 11 op n q) (registersRefusal (λ c. turn op n (pick x y width c)))
 
--- a start, its points of y given
+-- a start, its points of y and of the width given
 abbrev line : ℤ → ℤ → ℤ → ℤ → Control
 line p q r s = record { p0 = p; p1 = q; p2 = r; p3 = s }
 
-abbrev start : Control → ℕ → ℕ
-start y n = startRefusal 11 (pick (line (pos 0) (pos 0) (pos 0) (pos 0)) y) n
+abbrev still : Control
+still = line (pos 0) (pos 0) (pos 0) (pos 0)
+
+abbrev start : Control → Control → ℕ → ℕ
+start y width n = startRefusal 11 (pick still y width) n
 
 abbrev outside : Registers
 outside = registers (pos 2147483647) (negsuc 2147483647) (pos 0) (pos 0)
@@ -123,33 +144,39 @@ numbers =
     ∷ answer (newPosition 11 double 5 128) 128
     ∷ answer (newPosition 11 step 5 64) 128
     -- 10 by level and q, before 5 and 6
-    ∷ answer (of step 12 0 zeros zeros) 10
-    ∷ answer (of halve 12 0 zeros zeros) 10
-    ∷ answer (of step 12 2048 zeros zeros) 10
-    ∷ answer (of step 0 4096 zeros zeros) 10
-    ∷ answer (of step 11 2049 zeros zeros) 10
-    ∷ answer (of step 0 1 zeros zeros) 10
+    ∷ answer (of step 12 0 zeros zeros zeros) 10
+    ∷ answer (of halve 12 0 zeros zeros zeros) 10
+    ∷ answer (of step 12 2048 zeros zeros zeros) 10
+    ∷ answer (of step 0 4096 zeros zeros zeros) 10
+    ∷ answer (of step 11 2049 zeros zeros zeros) 10
+    ∷ answer (of step 0 1 zeros zeros zeros) 10
     -- 5, before 6 and 7
-    ∷ answer (of step 0 2048 zeros zeros) 5
-    ∷ answer (of halve 11 2048 zeros zeros) 5
-    ∷ answer (of double 0 2048 zeros zeros) 5
-    ∷ answer (of step 11 2047 zeros zeros) 0
+    ∷ answer (of step 0 2048 zeros zeros zeros) 5
+    ∷ answer (of halve 11 2048 zeros zeros zeros) 5
+    ∷ answer (of double 0 2048 zeros zeros zeros) 5
+    ∷ answer (of step 11 2047 zeros zeros zeros) 0
     -- 6, before 10 by registers; 7, 8
-    ∷ answer (of halve 11 0 outside zeros) 6
-    ∷ answer (of halve 10 0 zeros zeros) 0
-    ∷ answer (of double 0 0 zeros zeros) 7
-    ∷ answer (of double 1 1024 zeros zeros) 8
-    -- 10 by a new register of x or of y; the least and the largest number of 32 bits fit
-    ∷ answer (of halve 0 0 outside zeros) 10
-    ∷ answer (of step 0 0 (registers (pos 0) (pos 0) (negsuc 0) (negsuc 2147483646)) zeros) 0
-    ∷ answer (of step 0 0 (registers (pos 0) (pos 0) (negsuc 0) (negsuc 2147483647)) zeros) 10
-    ∷ answer (of step 0 0 zeros (registers (pos 0) (pos 0) (pos 1) (pos 2147483646))) 0
-    ∷ answer (of step 0 0 zeros (registers (pos 0) (pos 0) (pos 1) (pos 2147483647))) 10
+    ∷ answer (of halve 11 0 outside zeros zeros) 6
+    ∷ answer (of halve 10 0 zeros zeros zeros) 0
+    ∷ answer (of double 0 0 zeros zeros zeros) 7
+    ∷ answer (of double 1 1024 zeros zeros zeros) 8
+    -- 10 by a new register of x, of y or of the width; the least and the largest number of 32 bits fit
+    ∷ answer (of halve 0 0 outside zeros zeros) 10
+    ∷ answer (of step 0 0 (registers (pos 0) (pos 0) (negsuc 0) (negsuc 2147483646)) zeros zeros) 0
+    ∷ answer (of step 0 0 (registers (pos 0) (pos 0) (negsuc 0) (negsuc 2147483647)) zeros zeros) 10
+    ∷ answer (of step 0 0 zeros (registers (pos 0) (pos 0) (pos 1) (pos 2147483646)) zeros) 0
+    ∷ answer (of step 0 0 zeros (registers (pos 0) (pos 0) (pos 1) (pos 2147483647)) zeros) 10
+    ∷ answer (of step 0 0 zeros zeros (registers (pos 0) (pos 0) (pos 1) (pos 2147483646))) 0
+    ∷ answer (of step 0 0 zeros zeros (registers (pos 0) (pos 0) (pos 1) (pos 2147483647))) 10
     -- a start: 1, then 2, then 3
-    ∷ answer (start (line (pos 16384) (pos 0) (pos 0) (pos 0)) 12) 1
-    ∷ answer (start (line (pos 683) (pos 0) (pos 0) (pos 0)) 12) 2
-    ∷ answer (start (line (pos 682) (pos 0) (pos 0) (pos 0)) 12) 3
-    ∷ answer (start (line (pos 682) (pos 0) (pos 0) (pos 0)) 11) 0
+    ∷ answer (start (line (pos 16384) (pos 0) (pos 0) (pos 0)) still 12) 1
+    ∷ answer (start (line (pos 683) (pos 0) (pos 0) (pos 0)) still 12) 2
+    ∷ answer (start (line (pos 682) (pos 0) (pos 0) (pos 0)) still 12) 3
+    ∷ answer (start (line (pos 682) (pos 0) (pos 0) (pos 0)) still 11) 0
+    ∷ answer (start still (line (pos 0) (pos 0) (pos 0) (pos 16384)) 12) 1
+    ∷ answer (start (line (pos 683) (pos 0) (pos 0) (pos 0)) (line (pos 16384) (pos 0) (pos 0) (pos 0)) 0) 1
+    ∷ answer (start still (line (pos 0) (pos 0) (pos 0) (pos 683)) 12) 2
+    ∷ answer (start still (line (pos 0) (pos 0) (pos 0) (pos 682)) 11) 0
     -- choosing: 4, then 10, then 5
     ∷ answer (choiceRefusal 11 0 0 12 2048) 4
     ∷ answer (choiceRefusal 11 65537 0 0 2048) 4

@@ -10,10 +10,13 @@ use Rattle.rules.proofs.Refusals.{broken}
 use Rattle.coordinate.specs.declared.Registers.{Registers}
 use Rattle.coordinate.specs.Registers.{Operation, halve, double, step}
 use Rattle.coordinate.specs.Increment.{increment, doubledIncrement}
-use Rattle.operations.specs.Coordinates.{Coordinate, in-x, in-y}
+use Rattle.operations.specs.Coordinates.{Coordinate, in-x, in-y, in-width, OfPixel}
 use Rattle.operations.specs.Position.{stride, isAligned}
 use Rattle.operations.specs.Choice.{wantsHalve, wantsDouble, choose}
 use Rattle.operations.specs.ThreeRules.{Rule1, Rule2, Ruled}
+
+not-above : {m k : ℕ} → (m < k → ⊥) → k ≤ m
+not-above {m} {k} h = ltb-false m k (broken (ltb m k) (λ e. h (ltb-true m k e)))
 
 -- ---- one rule and its test
 
@@ -44,15 +47,11 @@ module _ (F upper n : ℕ) (r : Coordinate → Registers) where
       one (inl h) = λ i. lt-ltb upper _ h i || ltb upper (increment n (r in-y))
       one (inr h) = (λ i. ltb upper (increment n (r in-x)) || lt-ltb upper _ h i) ∙ or-true (ltb upper (increment n (r in-x)))
 
-  -- where it does not hold, off the finest level, both increments are within upper
-  pub limited : (Rule1 F upper n r → ⊥) → n < F → (increment n (r in-x) ≤ upper) × (increment n (r in-y) ≤ upper)
-  limited h l = (
-    not-above (λ a. h (record { either = inl a; below = l })),
-    not-above (λ a. h (record { either = inr a; below = l })),
-  )
-    where
-      not-above : {m k : ℕ} → (m < k → ⊥) → k ≤ m
-      not-above {m} {k} h = ltb-false m k (broken (ltb m k) (λ e. h (ltb-true m k e)))
+  -- where it does not hold, off the finest level, the increments of x and of y are within upper
+  pub limited : (Rule1 F upper n r → ⊥) → n < F → (c : Coordinate) → OfPixel c → increment n (r c) ≤ upper
+  limited h l in-x p = not-above (λ a. h (record { either = inl a; below = l }))
+  limited h l in-y p = not-above (λ a. h (record { either = inr a; below = l }))
+  limited h l in-width p = absurd p
 
 module _ (F upper lower n q : ℕ) (r : Coordinate → Registers) where
   pub double-wanted : wantsDouble F upper lower n q r ≡ true → Rule2 F upper lower n q r
@@ -120,3 +119,10 @@ module _ (F upper lower n q : ℕ) (r : Coordinate → Registers) where
       one step halve v w = absurd (v .0 w)
       one step double v w = absurd (v .1 (w .1))
       one step step v w = refl
+
+-- ---- the width takes no part: where x and y have the same registers, the same is chosen
+
+pub width-takes-no-part : (F upper lower n q : ℕ) (r r' : Coordinate → Registers) → ((c : Coordinate) → OfPixel c → r c ≡ r' c)
+    → choose F upper lower n q r ≡ choose F upper lower n q r'
+unfolding choose wantsHalve wantsDouble
+width-takes-no-part F upper lower n q r r' same = rw (same in-x tt, same in-y tt)

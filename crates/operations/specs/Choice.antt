@@ -1,4 +1,4 @@
--- Choosing the next operation at level n and position q, by the increments of x and y: whole numbers of any size.
+-- Choosing the next operation at level n and position q, by the increments of x and y: whole numbers of any size. The width takes no part.
 use mathlib.Core.Bool.{Bool, cond, _&&_, _||_}
 use Prim.Native.Nat.{ℕ}
 use lib.Dec.{leb, ltb}

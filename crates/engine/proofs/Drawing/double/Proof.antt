@@ -1,4 +1,4 @@
--- A refusal hands the drawing back; otherwise both coordinates are doubled and land.
+-- A refusal hands the drawing back; otherwise the coordinates are doubled and land.
 use mathlib.Core.Path.{_≡_, refl, sym, _∙_}
 use Prim.Native.Nat.{_-_, _≤_}
 use Rattle.rules.specs.Rules.{finest}
@@ -35,9 +35,12 @@ double-one-requires c κs = low c
 double-one-requires-2 : tie.Need-double-one-requires-2
 double-one-requires-2 c κs = low (c .before)
 
+double-one-requires-3 : tie.Need-double-one-requires-3
+double-one-requires-3 c κs = low (c .before .before)
+
 sub-land : tie.Need-sub-land
 sub-land c =
-    let e = rule-kept _ _ _ (call-opens finest double _ _ (passes (c .before .before)) .1) in
+    let e = rule-kept _ _ _ (call-opens finest double _ _ (passes (c .before .before .before)) .1) in
     ltb-true _ _ (e .0)
 
 land-requires : tie.Need-land-requires
@@ -45,8 +48,10 @@ land-requires c κs = search needs
 
 returns-2 : tie.Need-returns-2
 returns-2 c =
-    call-lands finest double _ _ _ _ _ (passes (c .before .before .before)) (c .before .before .double-one .ensures) (c .before .double-one2 .ensures) refl (c .land .ensures)
+    call-lands finest double _ _ _ _ _ _ (passes (c .before .before .before .before)) (c .before .before .before .double-one .ensures) (c .before .before .double-one2 .ensures)
+    (c .before .double-one3 .ensures) refl (c .land .ensures)
 
 pub double-spec : {M : Type 1} → statement M
 double-spec =
-    tie.close (tie.spec double-refusal-requires refuse-requires returns double-one-requires double-one-requires-2 sub-land land-requires returns-2)
+    tie.close
+    (tie.spec double-refusal-requires refuse-requires returns double-one-requires double-one-requires-2 double-one-requires-3 sub-land land-requires returns-2)

@@ -1,4 +1,4 @@
--- A refusal hands the drawing back; otherwise both coordinates are halved and land.
+-- A refusal hands the drawing back; otherwise the coordinates are halved and land.
 use mathlib.Core.Path.{_≡_, refl, sym, _∙_}
 use Prim.Native.Nat.{_≤_}
 use native.Mathlib.Omega.{arith}
@@ -34,16 +34,21 @@ halve-one-requires c κs = low c
 halve-one-requires-2 : tie.Need-halve-one-requires-2
 halve-one-requires-2 c κs = low (c .before)
 
+halve-one-requires-3 : tie.Need-halve-one-requires-3
+halve-one-requires-3 c κs = low (c .before .before)
+
 add-land : tie.Need-add-land
-add-land c = omega (arith, low (c .before .before))
+add-land c = omega (arith, low (c .before .before .before))
 
 land-requires : tie.Need-land-requires
 land-requires c κs = search needs
 
 returns-2 : tie.Need-returns-2
 returns-2 c =
-    call-lands finest halve _ _ _ _ _ (passes (c .before .before .before)) (c .before .before .halve-one .ensures) (c .before .halve-one2 .ensures) refl (c .land .ensures)
+    call-lands finest halve _ _ _ _ _ _ (passes (c .before .before .before .before)) (c .before .before .before .halve-one .ensures) (c .before .before .halve-one2 .ensures)
+    (c .before .halve-one3 .ensures) refl (c .land .ensures)
 
 pub halve-spec : {M : Type 1} → statement M
 halve-spec =
-    tie.close (tie.spec halve-refusal-requires refuse-requires returns halve-one-requires halve-one-requires-2 add-land land-requires returns-2)
+    tie.close
+    (tie.spec halve-refusal-requires refuse-requires returns halve-one-requires halve-one-requires-2 halve-one-requires-3 add-land land-requires returns-2)

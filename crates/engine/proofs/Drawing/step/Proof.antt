@@ -1,4 +1,4 @@
--- A refusal hands the drawing back; otherwise both coordinates are stepped and land, one stride on.
+-- A refusal hands the drawing back; otherwise the coordinates are stepped and land, one stride on.
 use mathlib.Core.Path.{_≡_, refl, sym, ap, _∙_}
 use Prim.Native.Nat.{ℕ, zero, suc, _+_, _≤_}
 use native.Mathlib.Omega.{arith}
@@ -43,12 +43,15 @@ step-one-requires c κs = low c
 step-one-requires-2 : tie.Need-step-one-requires-2
 step-one-requires-2 c κs = low (c .before)
 
+step-one-requires-3 : tie.Need-step-one-requires-3
+step-one-requires-3 c κs = low (c .before .before)
+
 stride-requires : tie.Need-stride-requires
-stride-requires c κs = low (c .before .before)
+stride-requires c κs = low (c .before .before .before)
 
 add-land : tie.Need-add-land
 add-land c =
-    let o = call-opens finest step _ _ (passes (c .before .before .before)) .0 in
+    let o = call-opens finest step _ _ (passes (c .before .before .before .before)) .0 in
     omega (arith, c .stride .ensures, step-within _ _ _ o)
 
 land-requires : tie.Need-land-requires
@@ -56,11 +59,12 @@ land-requires c κs = search needs
 
 returns-2 : tie.Need-returns-2
 returns-2 c =
-    let d = c .before .before .before .before .before .before .args .self in
-    call-lands finest step d _ _ _ _ (passes (c .before .before .before .before)) (c .before .before .before .step-one .ensures) (c .before .before .step-one2 .ensures)
+    let d = c .before .before .before .before .before .before .before .args .self in
+    call-lands finest step d _ _ _ _ _ (passes (c .before .before .before .before .before)) (c .before .before .before .before .step-one .ensures)
+    (c .before .before .before .step-one2 .ensures) (c .before .before .step-one3 .ensures)
     (ap (λ (s : ℕ). d .q + s) (c .before .stride .ensures)) (c .land .ensures)
 
 pub step-spec : {M : Type 1} → statement M
 step-spec =
     tie.close
-    (tie.spec gate-requires refuse-requires returns step-one-requires step-one-requires-2 stride-requires add-land land-requires returns-2)
+    (tie.spec gate-requires refuse-requires returns step-one-requires step-one-requires-2 step-one-requires-3 stride-requires add-land land-requires returns-2)

@@ -1,11 +1,12 @@
 -- Each return rewrites the table `startRefusal` with the tests that led there.
 use mathlib.Core.Path.{_≡_, sym, _∙_}
-use mathlib.Core.Bool.{_&&_, true, false}
+use mathlib.Core.Bool.{Bool, _&&_, true}
 use borrow.Author.Needs.{needs}
 use borrow.Author.Tests.{not-true, not-false}
 use Rattle.rules.specs.Rules.{reach}
+use Rattle.coordinate.specs.declared.Control.{Control}
 use Rattle.coordinate.specs.Points.{areCoordinates, areNear}
-use Rattle.operations.specs.Coordinates.{every}
+use Rattle.operations.specs.Coordinates.{pick, every}
 use Rattle.operations.specs.Refusals.{startRefusal}
 use Rattle.engine.proofs.starting.start_refusal.Statement.{statement}
 use Rattle.engine.proofs.starting.start_refusal.Tie as tie
@@ -16,11 +17,22 @@ coordinates-requires c κs = search needs
 coordinates-requires-2 : tie.Need-coordinates-requires-2
 coordinates-requires-2 c κs = search needs
 
+coordinates-requires-3 : tie.Need-coordinates-requires-3
+coordinates-requires-3 c κs = search needs
+
+-- a test of all three coordinates is what the three calls answered
+abbrev all : (Control → Bool) → Control → Control → Control → Bool
+all test x y width = every (λ c. test (pick x y width c))
+
+inside : (c : tie.After-coordinates3)
+    → let a = c .before .before .before .args in
+    all areCoordinates (a .x) (a .y) (a .width) ≡ (c .before .before .coordinates .result && c .before .coordinates2 .result && c .coordinates3 .result)
+unfolding every
+inside c = λ i. sym (c .before .before .coordinates .ensures) i && sym (c .before .coordinates2 .ensures) i && sym (c .coordinates3 .ensures) i
+
 returns : tie.Need-returns
-unfolding startRefusal every
-returns c =
-    let out : (areCoordinates (c .before .before .before .args .x) && areCoordinates (c .before .before .before .args .y)) ≡ false = (λ i. sym (c .before .before .coordinates .ensures) i && sym (c .before .coordinates2 .ensures) i) ∙ not-true _ (c .if1 .taken) in
-    simp out
+unfolding startRefusal
+returns c = simp (inside (c .before) ∙ not-true _ (c .if1 .taken))
 
 near-requires : tie.Need-near-requires
 near-requires c κs = search needs
@@ -28,28 +40,39 @@ near-requires c κs = search needs
 near-requires-2 : tie.Need-near-requires-2
 near-requires-2 c κs = search needs
 
-inside : (c : tie.Else1) → (areCoordinates (c .before .before .before .args .x) && areCoordinates (c .before .before .before .args .y)) ≡ true
-inside c = (λ i. sym (c .before .before .coordinates .ensures) i && sym (c .before .coordinates2 .ensures) i) ∙ not-false _ (c .if1 .left)
+near-requires-3 : tie.Need-near-requires-3
+near-requires-3 c κs = search needs
+
+let-in : (c : tie.Else1) → let a = c .before .before .before .before .args in all areCoordinates (a .x) (a .y) (a .width) ≡ true
+let-in c = inside (c .before) ∙ not-false _ (c .if1 .left)
+
+close : (c : tie.After-near3)
+    → let a = c .before .before .before .before .before .before .before .args in
+    all (areNear reach) (a .x) (a .y) (a .width) ≡ (c .before .before .near .result && c .before .near2 .result && c .near3 .result)
+unfolding every
+close c = λ i. sym (c .before .before .near .ensures) i && sym (c .before .near2 .ensures) i && sym (c .near3 .ensures) i
 
 returns-2 : tie.Need-returns-2
-unfolding startRefusal every
-returns-2 c =
-    let far : (areNear reach (c .before .before .before .before .before .before .args .x) && areNear reach (c .before .before .before .before .before .before .args .y)) ≡ false = (λ i. sym (c .before .before .near .ensures) i && sym (c .before .near2 .ensures) i) ∙ not-true _ (c .if2 .taken) in
-    simp (inside (c .before .before .before), far)
+unfolding startRefusal
+returns-2 c = simp (let-in (c .before .before .before .before), close (c .before) ∙ not-true _ (c .if2 .taken))
 
-close : (c : tie.Else2) → (areNear reach (c .before .before .before .before .before .before .args .x) && areNear reach (c .before .before .before .before .before .before .args .y)) ≡ true
-close c = (λ i. sym (c .before .before .near .ensures) i && sym (c .before .near2 .ensures) i) ∙ not-false _ (c .if2 .left)
+let-near : (c : tie.Else2) → let a = c .before .before .before .before .before .before .before .before .args in all (areNear reach) (a .x) (a .y) (a .width) ≡ true
+let-near c = close (c .before) ∙ not-false _ (c .if2 .left)
 
 level-requires : tie.Need-level-requires
 level-requires c κs = search needs
 
 returns-3 : tie.Need-returns-3
-unfolding startRefusal every
-returns-3 c = simp (inside (c .before .before .before .before .before), close (c .before .before), sym (c .before .level .ensures) ∙ not-true _ (c .if3 .taken))
+unfolding startRefusal
+returns-3 c =
+    let e = c .before .before in
+    simp (let-in (e .before .before .before .before), let-near e, sym (c .before .level .ensures) ∙ not-true _ (c .if3 .taken))
 
 returns-4 : tie.Need-returns-4
-unfolding startRefusal every
-returns-4 c = simp (inside (c .before .before .before .before .before), close (c .before .before), sym (c .before .level .ensures) ∙ not-false _ (c .if3 .left))
+unfolding startRefusal
+returns-4 c =
+    let e = c .before .before in
+    simp (let-in (e .before .before .before .before), let-near e, sym (c .before .level .ensures) ∙ not-false _ (c .if3 .left))
 
 pub start-refusal-spec : {M : Type 1} → statement M
 start-refusal-spec =
@@ -57,9 +80,11 @@ start-refusal-spec =
     (tie.spec
     coordinates-requires
     coordinates-requires-2
+    coordinates-requires-3
     returns
     near-requires
     near-requires-2
+    near-requires-3
     returns-2
     level-requires
     returns-3
