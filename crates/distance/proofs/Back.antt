@@ -10,7 +10,7 @@ use borrow.Author.Tests.{lt-ltb, eq-eqb, ltb-true}
 use Rattle.rules.specs.Refusals.{unless}
 use Rattle.rules.proofs.Refusals.{rule-kept}
 use Rattle.coordinate.specs.declared.Registers.{Registers}
-use Rattle.operations.specs.Coordinates.{Coordinate, in-x, in-y}
+use Rattle.operations.specs.Coordinates.{Coordinate, in-x, in-y, in-width}
 use Rattle.operations.specs.Position.{stride, isAligned}
 use Rattle.operations.proofs.Stays.{two-finer}
 use Rattle.engine.specs.declared.Drawing.{Drawing}
@@ -75,7 +75,7 @@ module _ (F : ℕ) (f : Coordinate → Curve) (fits : (c : Coordinate) → Bound
       let same : (c : Coordinate) → turn double (n + 1) (turn halve n (of c d)) ≡ of c d = λ c. double-halved F (f c) n (k .below) (d .q) (of c d) (k .levels) h (k .on c) in
       ap (λ (m : Moved). called F double (m .drawing)) first
       ∙ again
-      ∙ (λ i. record { refusal = 0; drawing = record { level = level i; q = d .q; x = same in-x i; y = same in-y i } })
+      ∙ (λ i. record { refusal = 0; drawing = record { level = level i; q = d .q; x = same in-x i; y = same in-y i; width = same in-width i } })
 
   pub halve-undoes-double : ruled F double (d .level) (d .q) ≡ 0 → called F halve (called F double d .drawing) ≡ record { refusal = 0; drawing = d }
   unfolding turned
@@ -92,4 +92,4 @@ module _ (F : ℕ) (f : Coordinate → Curve) (fits : (c : Coordinate) → Bound
       let same : (c : Coordinate) → turn halve (n - 1) (turn double n (of c d)) ≡ of c d = λ c. halve-doubled n (of c d) h in
       ap (λ (m : Moved). called F halve (m .drawing)) first
       ∙ again
-      ∙ (λ i. record { refusal = 0; drawing = record { level = level i; q = d .q; x = same in-x i; y = same in-y i } })
+      ∙ (λ i. record { refusal = 0; drawing = record { level = level i; q = d .q; x = same in-x i; y = same in-y i; width = same in-width i } })
