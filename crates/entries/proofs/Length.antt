@@ -36,6 +36,11 @@ module _ (e f : Entry) where
   unfolding moveLength
   move-in-both h k = rw (ne→eqbℤ (e .x) (f .x) h, ne→eqbℤ (e .y) (f .y) k)
 
+-- the width takes no part: entries that share x and y move alike, whatever their widths
+pub move-whatever-the-width : (e e' f f' : Entry) → e .x ≡ e' .x → e .y ≡ e' .y → f .x ≡ f' .x → f .y ≡ f' .y → moveLength e f ≡ moveLength e' f'
+unfolding moveLength
+move-whatever-the-width e e' f f' h k h' k' = rw (h, k, h', k')
+
 pub move-most : (e f : Entry) → moveLength e f ≤ 1414
 unfolding moveLength
 move-most e f = at-most (eqbℤ (e .x) (f .x)) (eqbℤ (e .y) (f .y))

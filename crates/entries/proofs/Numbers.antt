@@ -14,9 +14,10 @@ use Rattle.entries.specs.declared.Found.{Found}
 use Rattle.entries.specs.declared.Found.the-variants.{Here, Outside}
 use Rattle.entries.specs.Entries.{entrySize, numbers, flat, entryOf, entryAt, found, entriesIn}
 
--- position, x, y, in this order
-pub numbers-in-order : (position x y : ℤ) → numbers (record { position = position; x = x; y = y }) ≡ position ∷ x ∷ y ∷ []
-numbers-in-order position x y = refl
+-- position, x, y, width, in this order
+pub numbers-in-order : (position x y width : ℤ)
+    → numbers (record { position = position; x = x; y = y; width = width }) ≡ position ∷ x ∷ y ∷ width ∷ []
+numbers-in-order position x y width = refl
 
 pub length-flat : (es : List Entry) → length (flat es) ≡ entrySize * length es
 unfolding flat
@@ -38,6 +39,7 @@ entry-further e l i =
       position = first k;
       x = number-further e l i 1 (entrySize * (i + 1) + 1) refl k;
       y = number-further e l i 2 (entrySize * (i + 1) + 2) refl k;
+      width = number-further e l i 3 (entrySize * (i + 1) + 3) refl k;
     }
 
 entries-further : (e : Entry) (l : List ℤ) (i n : ℕ) → entriesIn (numbers e ++ l) (i + 1) n ≡ entriesIn l i n

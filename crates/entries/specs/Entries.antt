@@ -11,12 +11,12 @@ use Rattle.entries.specs.declared.Entry.{Entry}
 use Rattle.entries.specs.declared.Found.{Found}
 use Rattle.entries.specs.declared.Found.the-variants.{Here, Outside}
 
--- an entry is three numbers: position, x, y
+-- an entry is four numbers: position, x, y, width
 abbrev pub entrySize : ℕ
-entrySize = 3
+entrySize = 4
 
 abbrev pub numbers : Entry → List ℤ
-numbers e = e .position ∷ e .x ∷ e .y ∷ []
+numbers e = e .position ∷ e .x ∷ e .y ∷ e .width ∷ []
 
 -- the numbers of all entries, one entry after another
 unfoldable pub flat : List Entry → List ℤ
@@ -32,6 +32,7 @@ entryOf l i =
       position = getD l (entrySize * i) (pos 0);
       x = getD l (entrySize * i + 1) (pos 0);
       y = getD l (entrySize * i + 2) (pos 0);
+      width = getD l (entrySize * i + 3) (pos 0);
     }
 
 -- where the list reaches that far

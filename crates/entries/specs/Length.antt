@@ -1,4 +1,5 @@
--- The length of a list: over neighbouring entries, 0 where the pixel is the same, 1,000 for a move in one coordinate, 1,414 in both.
+-- The length of a list: over neighbouring entries, 0 where the pixel is the same, 1,000 for a move in one coordinate, 1,414 in both. A pixel is x and y,
+-- and the width is no part of it.
 use mathlib.Core.Bool.{cond}
 use mathlib.Core.List.{List, [], _∷_}
 use Prim.Native.Nat.{ℕ, _+_}

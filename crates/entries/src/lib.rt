@@ -6,13 +6,14 @@ ghost use Rattle.entries.specs.Entries.{numbers, entryAt, found};
 ghost use Rattle.entries.specs.Length.{moveLength};
 
 // The numbers of an entry.
-pub const ENTRY_SIZE: usize = 3;
+pub const ENTRY_SIZE: usize = 4;
 
-// An entry: its position on the path, and its pixel.
+// An entry: its position on the path, its pixel, and the width there.
 pub struct Entry {
     pub position: i32,
     pub x: i32,
     pub y: i32,
+    pub width: i32,
 }
 
 // An entry that was asked for, where the list reaches that far.
@@ -21,17 +22,19 @@ pub enum Found {
     Outside,
 }
 
-// Stores the three numbers of an entry from place `at` on, as far as the list reaches.
+// Stores the four numbers of an entry from place `at` on, as far as the list reaches.
 pub fn put(list: &mut [i32], at: usize, e: Entry)
     ensures { λ _. ⌜ now (list .exit) ≡ sets (now (list .entry)) at (numbers e) ⌝ }
 {
     let position = e.position;
     let x = e.x;
     let y = e.y;
+    let width = e.width;
     if at < list.len() {
         store(list, at, position);
         store(list, at + 1, x);
         store(list, at + 2, y);
+        store(list, at + 3, width);
     }
 }
 
@@ -56,10 +59,11 @@ pub fn entry_at(list: &[i32], i: usize) -> Found
         position: list[at],
         x: list[at + 1],
         y: list[at + 2],
+        width: list[at + 3],
     })
 }
 
-// What the move from one entry to the next adds to the length.
+// What the move from one entry to the next adds to the length; the width takes no part.
 pub fn move_length(from: Entry, to: Entry) -> u32
     ensures { λ r. ⌜ r ≡ moveLength from to ⌝ }
 {

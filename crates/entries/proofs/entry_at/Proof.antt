@@ -39,13 +39,26 @@ mul-t13 c = search needs
 shared-slice-copy-out-t15 : tie.Need-shared-slice-copy-out-t15
 shared-slice-copy-out-t15 c = search needs
 
+add-t16 : tie.Need-add-t16
+add-t16 c = search needs
+
+mul-t17 : tie.Need-mul-t17
+mul-t17 c = search needs
+
+shared-slice-copy-out-t19 : tie.Need-shared-slice-copy-out-t19
+shared-slice-copy-out-t19 c = search needs
+
 returns-2 : tie.Need-returns-2
 unfolding entryAt
 returns-2 c =
-    let s = c .before .before .before .before in
+    let s = c .before .before .before .before .before in
     let l = s .args .list .now in
     let at = entrySize * s .args .i in
-    simp (lt-ltb _ _ (c .before .before .before .if1 .left), number-read l at at refl (c .before .before .t8 .given), number-read l (at + 1) (at + 1) refl (c .before .t11 .given), number-read l (at + 2) (at + 2) refl (c .t15 .given))
+    let position = number-read l at at refl (c .before .before .before .t8 .given) in
+    let x = number-read l (at + 1) (at + 1) refl (c .before .before .t11 .given) in
+    let y = number-read l (at + 2) (at + 2) refl (c .before .t15 .given) in
+    let width = number-read l (at + 3) (at + 3) refl (c .t19 .given) in
+    simp (lt-ltb _ _ (c .before .before .before .before .if1 .left), position, x, y, width)
 
 pub entry-at-spec : {M : Type 1} → statement M
 entry-at-spec =
@@ -61,4 +74,7 @@ entry-at-spec =
     add-t12
     mul-t13
     shared-slice-copy-out-t15
+    add-t16
+    mul-t17
+    shared-slice-copy-out-t19
     returns-2)
