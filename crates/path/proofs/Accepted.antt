@@ -11,7 +11,7 @@ use Rattle.rules.proofs.Refusals.{rule-kept, first-kept}
 use Rattle.rules.proofs.Laws.{coordinate-range, range-coordinate, neighbours-size, limits-hold, hold-limits, Sized, size-holds, holds-size}
 use Rattle.rules.proofs.Every.{points-hold, hold-points, chained-hold, hold-chained}
 use Rattle.coordinate.specs.Points.{areCoordinates, areNear}
-use Rattle.operations.specs.Coordinates.{Coordinate, in-x, in-y}
+use Rattle.operations.specs.Coordinates.{Coordinate, in-x, in-y, in-width}
 use Rattle.operations.specs.Refusals.{startRefusal}
 use Rattle.operations.proofs.Every.{true-every}
 use Rattle.path.specs.Path.{Path, pathRefusal, pointAt, place, control, controls}
@@ -46,11 +46,11 @@ module _ (F : ℕ) (p : Path) (t : Passed F p) where
   pub sized : Sized (p .segments) (length (p .points))
   sized = size-holds (p .segments) (length (p .points)) (t .size)
 
-  point-kept : (c i : ℕ) → c < 2 → i ≤ 3 * p .segments → isCoordinate (pointAt (p .points) c i) ≡ true
+  point-kept : (c i : ℕ) → c < 3 → i ≤ 3 * p .segments → isCoordinate (pointAt (p .points) c i) ≡ true
   unfolding pointAt
   point-kept c i h k = points-hold (p .points) (t .points) (coordinates * i + c) (omega (arith, sized .size))
 
-  next-kept : (c i j : ℕ) → c < 2 → j ≡ i + 1 → j ≤ 3 * p .segments → areNeighbours reach (pointAt (p .points) c i) (pointAt (p .points) c j) ≡ true
+  next-kept : (c i j : ℕ) → c < 3 → j ≡ i + 1 → j ≤ 3 * p .segments → areNeighbours reach (pointAt (p .points) c i) (pointAt (p .points) c j) ≡ true
   unfolding pointAt
   next-kept c i j h e k =
       let f : coordinates * j + c ≡ coordinates + (coordinates * i + c) = omega arith in
@@ -74,7 +74,7 @@ module _ (F : ℕ) (p : Path) (t : Passed F p) where
       }
 
   -- one coordinate of segment k
-  module _ (c k : ℕ) (h : c < 2) (m : k < p .segments) where
+  module _ (c k : ℕ) (h : c < 3) (m : k < p .segments) where
     segment-points : areCoordinates (control (p .points) c k) ≡ true
     unfolding areCoordinates control
     segment-points =
@@ -99,7 +99,7 @@ module _ (F : ℕ) (p : Path) (t : Passed F p) where
 pub accepted-lawful : (F : ℕ) (p : Path) → pathRefusal F p ≡ 0 → Lawful F p
 accepted-lawful F p e = kept-lawful F p (passed F p e)
 
--- number i of the list is coordinate i % 2 of point i / 2
+-- number i of the list is coordinate i % 3 of point i / 3
 pub lawful-accepted : (F : ℕ) (p : Path) → Lawful F p → pathRefusal F p ≡ 0
 unfolding isLevel areNeighbours pointAt
 lawful-accepted F p l =
@@ -113,23 +113,24 @@ lawful-accepted F p l =
   where
     point : (i : ℕ) → i < length (p .points) → isCoordinate (getD (p .points) i (pos 0)) ≡ true
     point i h =
-        let e : coordinates * (i / 2) + i % 2 ≡ i = omega arith in
-        let k : i / 2 ≤ 3 * p .segments = omega arith in
-        rw e at (range-coordinate (l .low (i % 2) (i / 2) (omega arith) k) (l .high (i % 2) (i / 2) (omega arith) k))
+        let e : coordinates * (i / 3) + i % 3 ≡ i = omega arith in
+        let k : i / 3 ≤ 3 * p .segments = omega arith in
+        rw e at (range-coordinate (l .low (i % 3) (i / 3) (omega arith) k) (l .high (i % 3) (i / 3) (omega arith) k))
 
     pair : (i : ℕ) → coordinates + i < length (p .points)
         → areNeighbours reach (getD (p .points) i (pos 0)) (getD (p .points) (coordinates + i) (pos 0)) ≡ true
     pair i h =
-        let e : coordinates * (i / 2) + i % 2 ≡ i = omega arith in
-        let f : coordinates * (i / 2 + 1) + i % 2 ≡ coordinates + i = omega arith in
-        le-leb _ reach (rw (e, f) at (l .near (i % 2) (i / 2) (omega arith) (omega arith)))
+        let e : coordinates * (i / 3) + i % 3 ≡ i = omega arith in
+        let f : coordinates * (i / 3 + 1) + i % 3 ≡ coordinates + i = omega arith in
+        le-leb _ reach (rw (e, f) at (l .near (i % 3) (i / 3) (omega arith) (omega arith)))
 
-pub point-inside : {F : ℕ} {p : Path} → Lawful F p → (c i : ℕ) → c < 2 → i ≤ 3 * p .segments → coordinates * i + c < length (p .points)
+pub point-inside : {F : ℕ} {p : Path} → Lawful F p → (c i : ℕ) → c < 3 → i ≤ 3 * p .segments → coordinates * i + c < length (p .points)
 point-inside l c i h k = omega arith
 
 place-inside : (c : Coordinate) → place c < coordinates
 place-inside in-x = omega arith
 place-inside in-y = omega arith
+place-inside in-width = omega arith
 
 pub segment-accepted : (F : ℕ) (p : Path) → pathRefusal F p ≡ 0 → (k : ℕ) → k < p .segments → startRefusal F (controls (p .points) k) (p .level) ≡ 0
 unfolding startRefusal

@@ -62,7 +62,7 @@ rest-shifted F p k d = shown-shifted F k (turns F (p .upper) (p .lower) d)
 
 first-alone : (p : Path) (k : ℕ) → first (alone p k .points) (p .level) 0 ≡ first (p .points) (p .level) k
 unfolding first
-first-alone p k = rw (control-alone p k 0 (omega arith), control-alone p k 1 (omega arith))
+first-alone p k = rw (control-alone p k 0 (omega arith), control-alone p k 1 (omega arith), control-alone p k 2 (omega arith))
 
 -- at its place, a segment's list is its start and what is left from there on
 placed-whole : (F : ℕ) (p : Path) (k : ℕ)

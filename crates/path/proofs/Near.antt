@@ -13,7 +13,7 @@ use Rattle.coordinate.specs.Curve.{curve, exact}
 use Rattle.coordinate.specs.Shown.{pixel}
 use Rattle.coordinate.proofs.Bernstein.{starts, ends}
 use Rattle.coordinate.proofs.Half.{shown-near}
-use Rattle.operations.specs.Coordinates.{Coordinate, in-x, in-y, pick}
+use Rattle.operations.specs.Coordinates.{Coordinate, in-x, in-y, in-width, pick}
 use Rattle.operations.proofs.Gates.{inside}
 use Rattle.engine.specs.Drawing.{of}
 use Rattle.distance.specs.Calls.{after}
@@ -78,13 +78,14 @@ placed-near F p e l =
       position = ap (λ (f : Entry). f .position) (l .shown);
       inside = further (2 ^ F) (l .k) (d .q) (p .segments) within (l .segment);
       near = λ k q _ h same c.
-          subst (λ (y : ℤ). Within F (32768 + 3 * 2 ^ F) y (pick (e .x) (e .y) c)) (exact-same F (p .points) c (l .k) (d .q) k q within h same)
+          subst (λ (y : ℤ). Within F (32768 + 3 * 2 ^ F) y (pick (e .x) (e .y) (e .width) c)) (exact-same F (p .points) c (l .k) (d .q) k q within h same)
           (rw (number c) (shown-near F (courses (p .points) (l .k) c) (d .q) (of c d) (l .demand .stands c)));
     }
   where
-    number : (c : Coordinate) → pick (e .x) (e .y) c ≡ pixel (of c (after F (l .calls) (begins F p (l .k))))
+    number : (c : Coordinate) → pick (e .x) (e .y) (e .width) c ≡ pixel (of c (after F (l .calls) (begins F p (l .k))))
     number in-x = ap (λ (f : Entry). f .x) (l .shown)
     number in-y = ap (λ (f : Entry). f .y) (l .shown)
+    number in-width = ap (λ (f : Entry). f .width) (l .shown)
 
 pub near-in-numbers : (p : Path) (e : Entry) → Near 11 p e → NearInNumbers p e
 near-in-numbers p e n =
@@ -93,5 +94,5 @@ near-in-numbers p e n =
       position = n .position;
       inside = n .inside;
       near = λ k q s h l c.
-          subst (λ (g : Control). Within 11 38912 (exact 11 (curve g) q) (pick (e .x) (e .y) c)) (segment-uses (p .points) k c) (n .near k q s h l c);
+          subst (λ (g : Control). Within 11 38912 (exact 11 (curve g) q) (pick (e .x) (e .y) (e .width) c)) (segment-uses (p .points) k c) (n .near k q s h l c);
     }

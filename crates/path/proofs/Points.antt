@@ -6,7 +6,7 @@ use native.Mathlib.Omega.{arith}
 use lib.IntN.{ℤ, pos}
 use lib.ListN.{getD}
 use Rattle.rules.specs.Rules.{coordinates}
-use Rattle.operations.specs.Coordinates.{Coordinate, in-x, in-y, pick}
+use Rattle.operations.specs.Coordinates.{Coordinate, in-x, in-y, in-width, pick}
 use Rattle.path.specs.Path.{path, pointAt, control, controls}
 use Rattle.path.specs.Listed.{segmentPoints}
 
@@ -15,17 +15,19 @@ pub arguments-in-order : (points : List ℤ) (segments level upper lower : ℕ)
     ≡ record { points = points; segments = segments; level = level; upper = upper; lower = lower }
 arguments-in-order points segments level upper lower = refl
 
-pub x-then-y : (x y : ℤ) (points : List ℤ) → (pointAt (x ∷ y ∷ points) 0 0 ≡ x) × (pointAt (x ∷ y ∷ points) 1 0 ≡ y)
+pub x-y-width : (x y width : ℤ) (points : List ℤ)
+    → let l = x ∷ y ∷ width ∷ points in (pointAt l 0 0 ≡ x) × (pointAt l 1 0 ≡ y) × (pointAt l 2 0 ≡ width)
 unfolding pointAt
-x-then-y x y points = (refl, refl)
+x-y-width x y width points = (refl, refl, refl)
 
-pub point-after-point : (x y : ℤ) (points : List ℤ) (c i : ℕ) → pointAt (x ∷ y ∷ points) c (i + 1) ≡ pointAt points c i
+pub point-after-point : (x y width : ℤ) (points : List ℤ) (c i : ℕ) → pointAt (x ∷ y ∷ width ∷ points) c (i + 1) ≡ pointAt points c i
 unfolding pointAt
-point-after-point x y points c i =
-    let next : coordinates * (i + 1) + c ≡ suc (suc (coordinates * i + c)) = omega arith in
-    ap (λ (n : ℕ). getD (x ∷ y ∷ points) n (pos 0)) next
+point-after-point x y width points c i =
+    let next : coordinates * (i + 1) + c ≡ suc (suc (suc (coordinates * i + c))) = omega arith in
+    ap (λ (n : ℕ). getD (x ∷ y ∷ width ∷ points) n (pos 0)) next
 
-pub segment-uses : (points : List ℤ) (k : ℕ) (c : Coordinate) → controls points k c ≡ segmentPoints points (pick 0 1 c) k
+pub segment-uses : (points : List ℤ) (k : ℕ) (c : Coordinate) → controls points k c ≡ segmentPoints points (pick 0 1 2 c) k
 unfolding control
 segment-uses points k in-x = refl
 segment-uses points k in-y = refl
+segment-uses points k in-width = refl

@@ -14,7 +14,7 @@ use Rattle.coordinate.specs.Registers.{step}
 use Rattle.coordinate.specs.Shown.{pixel}
 use Rattle.coordinate.specs.Stands.{Stands}
 use Rattle.coordinate.proofs.Stands.{stands}
-use Rattle.operations.specs.Coordinates.{Coordinate, in-x, in-y}
+use Rattle.operations.specs.Coordinates.{Coordinate, in-x, in-y, in-width}
 use Rattle.operations.specs.ThreeRules.{Rule1}
 use Rattle.engine.specs.declared.Drawing.{Drawing}
 use Rattle.engine.specs.declared.Moved.{Moved}
@@ -53,14 +53,14 @@ module _ (F : ℕ) (p : Path) (k : ℕ) (s : Sound F p k) where
   entry-first d on e =
       let n : 2 ^ F * k + d .q ≡ 2 ^ F * k = omega arith in
       let shown = shown-first d on e in
-      λ i. record { position = pos (n i); x = shown in-x i; y = shown in-y i }
+      λ i. record { position = pos (n i); x = shown in-x i; y = shown in-y i; width = shown in-width i }
 
   entry-last : (d : Drawing) → Of F p k d → d .q ≡ 2 ^ F → entry F k d ≡ corner F (p .points) (k + 1)
   unfolding entry corner
   entry-last d on e =
       let n : 2 ^ F * k + d .q ≡ 2 ^ F * (k + 1) = omega arith in
       let shown = shown-last d on e in
-      λ i. record { position = pos (n i); x = shown in-x i; y = shown in-y i }
+      λ i. record { position = pos (n i); x = shown in-x i; y = shown in-y i; width = shown in-width i }
 
   pub span-last : (d : Drawing) → Held F p k d → lastOf (entry F k d) (rest F p k d) ≡ corner F (p .points) (k + 1)
   span-last =
@@ -77,7 +77,7 @@ module _ (F : ℕ) (p : Path) (k : ℕ) (s : Sound F p k) where
       let upper = limits-hold (p .upper) (p .lower) (s .limits) .most in
       let t = touches F (p .upper) (courses (p .points) k) d (omega (arith, s .fine .most)) (omega (arith, s .fine .room)) (s .tame) on upper e b in
       let l : 2 ^ F * k + d .q < 2 ^ F * k + (d .q + 2 ^ (F - d .level)) = omega (arith, pow-pos (F - d .level)) in
-      record { rises = record { lt = lt→ltb (2 ^ F * k + d .q) (2 ^ F * k + (d .q + 2 ^ (F - d .level))) l }; x = t in-x; y = t in-y }
+      record { rises = record { lt = lt→ltb (2 ^ F * k + d .q) (2 ^ F * k + (d .q + 2 ^ (F - d .level))) l }; x = t in-x tt; y = t in-y tt }
 
   pub span-linked : (d : Drawing) → Held F p k d → Linked Follows (entry F k d) (rest F p k d)
   span-linked =

@@ -10,9 +10,9 @@ use Rattle.entries.specs.declared.Entry.{Entry}
 use Rattle.path.specs.Path.{Path, first}
 use Rattle.path.specs.Segment.{Turn, turns}
 
--- position 2^F·k + q, and the point shown
+-- position 2^F·k + q, and the point shown with its width
 unfoldable pub entry : ℕ → ℕ → Drawing → Entry
-entry F k d = record { position = pos (2 ^ F * k + d .q); x = pixel (d .x); y = pixel (d .y) }
+entry F k d = record { position = pos (2 ^ F * k + d .q); x = pixel (d .x); y = pixel (d .y); width = pixel (d .width) }
 
 -- what an operation on d shows: a step the point after it, halve and double none
 abbrev pub shown : ℕ → ℕ → Operation → Drawing → List Entry

@@ -21,7 +21,7 @@ alone p k =
 
 -- an entry n positions further on
 unfoldable pub shifted : ℕ → Entry → Entry
-shifted n e = record { position = e .position +ℤ pos n; x = e .x; y = e .y }
+shifted n e = record { position = e .position +ℤ pos n; x = e .x; y = e .y; width = e .width }
 
 -- the list of segment k by itself, at its place on the path
 unfoldable pub placed : ℕ → Path → ℕ → List Entry

@@ -7,14 +7,14 @@ use lib.Signed.{_≤ℤ_}
 use Rattle.path.specs.Path.{Path, pointAt}
 
 pub record Lawful (F : ℕ) (p : Path) : Type 0 where
-  -- 1 to 64 segments, 3S + 1 points of two coordinates
+  -- 1 to 64 segments, 3S + 1 points of three coordinates
   pub some : 1 ≤ p .segments
   pub most : p .segments ≤ 64
-  pub size : length (p .points) ≡ 2 * (3 * p .segments + 1)
+  pub size : length (p .points) ≡ 3 * (3 * p .segments + 1)
   -- coordinate c of point i is from −16,384 to 16,383, and of neighbouring points at most 682 apart
-  pub low : (c i : ℕ) → c < 2 → i ≤ 3 * p .segments → negsuc 16383 ≤ℤ pointAt (p .points) c i
-  pub high : (c i : ℕ) → c < 2 → i ≤ 3 * p .segments → pointAt (p .points) c i ≤ℤ pos 16383
-  pub near : (c i : ℕ) → c < 2 → i < 3 * p .segments → natAbs (pointAt (p .points) c (i + 1) -ℤ pointAt (p .points) c i) ≤ 682
+  pub low : (c i : ℕ) → c < 3 → i ≤ 3 * p .segments → negsuc 16383 ≤ℤ pointAt (p .points) c i
+  pub high : (c i : ℕ) → c < 3 → i ≤ 3 * p .segments → pointAt (p .points) c i ≤ℤ pos 16383
+  pub near : (c i : ℕ) → c < 3 → i < 3 * p .segments → natAbs (pointAt (p .points) c (i + 1) -ℤ pointAt (p .points) c i) ≤ 682
   -- levels 0 to F; 1 ≤ upper ≤ 65,536 and 0 ≤ lower ≤ upper
   pub level : p .level ≤ F
   pub least : 1 ≤ p .upper

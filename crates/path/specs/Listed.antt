@@ -10,7 +10,7 @@ use Rattle.rules.specs.Rules.{degree}
 use Rattle.coordinate.specs.declared.Control.{Control}
 use Rattle.coordinate.specs.Curve.{curve, exact}
 use Rattle.coordinate.specs.Registers.{Operation}
-use Rattle.operations.specs.Coordinates.{Coordinate, in-x, in-y, pick}
+use Rattle.operations.specs.Coordinates.{Coordinate, in-x, in-y, in-width, pick}
 use Rattle.engine.specs.declared.Drawing.{Drawing}
 use Rattle.engine.specs.Start.{started}
 use Rattle.distance.specs.Calls.{after, travelled}
@@ -26,16 +26,17 @@ use Rattle.path.specs.Steps.{Goes, afterSteps, shownAt, inOrder}
 abbrev pub begins : ℕ → Path → ℕ → Drawing
 begins F p k = started F (controls (p .points) k) (p .level) .drawing
 
--- control point 3k, at its position on the path
+-- control point 3k with its width, at its position on the path
 unfoldable pub corner : ℕ → List ℤ → ℕ → Entry
 corner F points k =
     record {
       position = pos (2 ^ F * k);
       x = pointAt points (place in-x) (degree * k);
       y = pointAt points (place in-y) (degree * k);
+      width = pointAt points (place in-width) (degree * k);
     }
 
--- neighbouring entries: the position rises, and x and y differ by at most 1
+-- neighbouring entries: the position rises, and x and y differ by at most 1; the width may differ by more
 pub record Follows (e f : Entry) : Type 0 where
   pub rises : e .position <ℤ f .position
   pub x : natAbs (f .x -ℤ e .x) ≤ 1
@@ -54,14 +55,14 @@ pub record Placed (F : ℕ) (p : Path) (e : Entry) : Type 0 where
 abbrev pub Within : ℕ → ℕ → ℤ → ℤ → Type 0
 Within F m y z = natAbs (pos 65536 *ℤ z *ℤ pos (2 ^ (3 * F)) -ℤ pos 65536 *ℤ y) < m * 2 ^ (3 * F)
 
--- An entry stands where its position says: wherever that is 2^F·k + q, at a join for both segments, x and y are less than half a unit and
+-- An entry stands where its position says: wherever that is 2^F·k + q, at a join for both segments, x, y and the width are less than half a unit and
 -- 3·2^F 65,536ths from the exact curve of segment k at t = q / 2^F.
 pub record Near (F : ℕ) (p : Path) (e : Entry) : Type 0 where
   pub at : ℕ
   pub position : e .position ≡ pos at
   pub inside : at ≤ 2 ^ F * p .segments
   pub near : (k q : ℕ) → k < p .segments → q ≤ 2 ^ F → at ≡ 2 ^ F * k + q → (c : Coordinate)
-      → Within F (32768 + 3 * 2 ^ F) (exact F (courses (p .points) k c .curve) q) (pick (e .x) (e .y) c)
+      → Within F (32768 + 3 * 2 ^ F) (exact F (courses (p .points) k c .curve) q) (pick (e .x) (e .y) (e .width) c)
 
 pub record Listed (F : ℕ) (p : Path) : Type 0 where
   -- the list starts at the path's first control point, ends at its last, and has control point 3k at each 2^F·k
@@ -95,13 +96,20 @@ pub record NearInNumbers (p : Path) (e : Entry) : Type 0 where
   pub position : e .position ≡ pos at
   pub inside : at ≤ 2048 * p .segments
   pub near : (k q : ℕ) → k < p .segments → q ≤ 2048 → at ≡ 2048 * k + q → (c : Coordinate)
-      → natAbs (pos 65536 *ℤ pick (e .x) (e .y) c *ℤ pos (2 ^ 33) -ℤ pos 65536 *ℤ exact 11 (curve (segmentPoints (p .points) (pick 0 1 c) k)) q)
+      → natAbs (pos 65536 *ℤ pick (e .x) (e .y) (e .width) c *ℤ pos (2 ^ 33) -ℤ pos 65536 *ℤ exact 11 (curve (segmentPoints (p .points) (pick 0 1 2 c) k)) q)
       < 38912 * 2 ^ 33
 
 -- the corners stand at 2,048·k, every entry is near the exact curve, and the most points and length
 pub record InNumbers (p : Path) : Type 0 where
   pub corners : (k : ℕ) → k ≤ p .segments
-      → Among (record { position = pos (2048 * k); x = pointAt (p .points) 0 (3 * k); y = pointAt (p .points) 1 (3 * k) }) (entries 11 p)
+      → Among
+      (record {
+        position = pos (2048 * k);
+        x = pointAt (p .points) 0 (3 * k);
+        y = pointAt (p .points) 1 (3 * k);
+        width = pointAt (p .points) 2 (3 * k);
+      })
+      (entries 11 p)
   pub near : All (NearInNumbers p) (entries 11 p)
   pub count : length (entries 11 p) ≤ 2048 * p .segments + 1
   pub total : lengthOf (entries 11 p) ≤ 1414 * (2048 * p .segments)

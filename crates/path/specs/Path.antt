@@ -7,11 +7,11 @@ use Rattle.rules.specs.Refusals.{unless, firstOf}
 use Rattle.rules.specs.Rules.{reach, isLevel, areLimits, degree, coordinates, isSize, pointsRefusal}
 use Rattle.coordinate.specs.declared.Control.{Control}
 use Rattle.coordinate.specs.Course.{Course, cubic}
-use Rattle.operations.specs.Coordinates.{Coordinate, in-x, in-y}
+use Rattle.operations.specs.Coordinates.{Coordinate, in-x, in-y, in-width}
 use Rattle.engine.specs.declared.Drawing.{Drawing}
 use Rattle.engine.specs.Start.{firstDrawing}
 
--- points: x0, y0, x1, y1, .., as on a sheet
+-- points: x0, y0, width0, x1, y1, width1, .., as on a sheet
 pub record Path : Type 0 where
   pub points : List ℤ
   pub segments : ℕ
@@ -38,6 +38,7 @@ pointAt points c i = getD points (coordinates * i + c) (pos 0)
 abbrev pub place : Coordinate → ℕ
 place in-x = 0
 place in-y = 1
+place in-width = 2
 
 -- segment k uses points 3k to 3k + 3
 unfoldable pub control : List ℤ → ℕ → ℕ → Control

@@ -23,9 +23,9 @@ afterSteps F (halve ∷ ops) d = afterSteps F ops (called F halve d .drawing)
 afterSteps F (double ∷ ops) d = afterSteps F ops (called F double d .drawing)
 afterSteps F (step ∷ ops) d = called F step d .drawing ∷ afterSteps F ops (called F step d .drawing)
 
--- what is listed of a drawing of segment k: position 2^F·k + q, and the point that the engine shows
+-- what is listed of a drawing of segment k: position 2^F·k + q, and the point that the engine shows with its width
 abbrev pub shownAt : ℕ → ℕ → Drawing → Entry
-shownAt F k d = record { position = pos (2 ^ F * k + d .q); x = point d .x; y = point d .y }
+shownAt F k d = record { position = pos (2 ^ F * k + d .q); x = point d .x; y = point d .y; width = point d .width }
 
 -- the lists of m segments, one after another, from the first on
 abbrev pub inOrder : ℕ → (ℕ → List Entry) → List Entry
