@@ -20,7 +20,7 @@ planned points plan = path points (plan .segments) (plan .level) (plan .upper) (
 -- the start of segment k can be read, and is accepted
 pub record Ready (points : List ℤ) (level k : ℕ) : Type 0 where
   pub few : k < mostSegments
-  pub inside : coordinates * (degree * k + degree) + 1 < length points
+  pub inside : coordinates * (degree * k + degree + 1) ≤ length points
   pub accepted : startRefusal finest (controls points k) level ≡ 0
 
 -- a tally of the start alone, and one with one more point

@@ -36,7 +36,7 @@ struct Tally {
     last: Entry,
 }
 
-// Draws a path into the front of `list`, three numbers a point. Refuses 14, 1, 2, 3, 4, 9, with the list as it was.
+// Draws a path into the front of `list`, four numbers a point. Refuses 14, 1, 2, 3, 4, 9, with the list as it was.
 pub fn draw(
     points: &[i32],
     segments: u32,

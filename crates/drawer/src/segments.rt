@@ -24,6 +24,7 @@ pub(crate) fn entry_of(d: Drawing, k: u32) -> Entry
         position: position as i32,
         x: shown.x,
         y: shown.y,
+        width: shown.width,
     }
 }
 
@@ -34,12 +35,13 @@ pub(crate) fn first_of(points: &[i32], k: u32, level: u32) -> Drawing
 {
     let x = control_of(points, 0, k);
     let y = control_of(points, 1, k);
-    Drawing::start(x, y, level).drawing
+    let width = control_of(points, 2, k);
+    Drawing::start(x, y, width, level).drawing
 }
 
 // Coordinate c of segment k's points.
 fn control_of(points: &[i32], c: usize, k: u32) -> Control
-    requires { ⌜ (c < coordinates) × (k < mostSegments) × (coordinates * (degree * k + degree) + 1 < length (now points)) ⌝ }
+    requires { ⌜ (c < coordinates) × (k < mostSegments) × (coordinates * (degree * k + degree + 1) ≤ length (now points)) ⌝ }
     ensures { λ r. ⌜ r ≡ control (now (points .entry)) c k ⌝ }
 {
     let i = COORDINATES * (DEGREE * (k as usize)) + c;

@@ -1,13 +1,15 @@
 -- The starred cases A to K of document 01, as one statement over one table. A row is a row of the engine's table, cited, or a path of one
--- segment with the list that the document gives of it. The other coordinate is 0 throughout.
+-- segment with its list. In the document's rows one coordinate moves, and the others are 0 throughout; two rows of order 8, in which the width
+-- moves, are reckoned by hand.
 use mathlib.Core.Path.{_≡_}
-use mathlib.Core.Bool.{Bool}
+use mathlib.Core.Bool.{Bool, _&&_}
 use mathlib.Core.List.{List, [], _∷_, _++_, map}
 use mathlib.Core.Option.{Option, none, some}
-use Prim.Native.Nat.{ℕ, _+_, _*_}
+use Prim.Native.Nat.{ℕ, suc, _+_, _*_}
 use lib.Dec.{T, eqb, eqb→eq}
 use lib.IntN.{ℤ, pos, negsuc}
-use lib.ListN.{length, replicate}
+use lib.ListN.{length, getD, replicate}
+use mir.Facts.{and-yes}
 use Rattle.numbers.specs.Tests.{eqbℤs}
 use Rattle.numbers.proofs.Tests.{eqbℤs→eq}
 use Rattle.numbers.specs.Tables.{All, every}
@@ -18,6 +20,7 @@ use Rattle.coordinate.specs.Curve.{curve}
 use Rattle.coordinate.specs.Registers.{startRegisters, turn}
 use Rattle.coordinate.specs.Increment.{increment, doubledIncrement}
 use Rattle.coordinate.specs.Shown.{pixel}
+use Rattle.operations.specs.Coordinates.{Coordinate, in-x, in-y, in-width, pick, every as everyCoordinate}
 use Rattle.operations.specs.Position.{isAligned}
 use Rattle.operations.specs.Choice.{wantsHalve, wantsDouble, choose}
 use Rattle.engine.specs.Drawing.{turned}
@@ -30,26 +33,34 @@ use Rattle.path.specs.Segment.{turnsIn, turns}
 use Rattle.path.specs.Entries.{entry, shownBy, rest, following, entries}
 use Rattle.path.specs.Answer.{drawRefusal, measured, drawn, written}
 
--- the control points of x, and the document's list: its positions and its x; its length, where the document gives it
+-- the control points of each coordinate, and the list: its positions, and what it shows of each coordinate; its length, where it is given
 pub record Row : Type 0 where
-  pub control : Control
+  pub points : Coordinate → Control
   pub level : ℕ
   pub upper : ℕ
   pub lower : ℕ
   pub positions : List ℕ
-  pub x : List ℤ
+  pub shown : Coordinate → List ℤ
   pub total : Option ℕ
+
+-- the numbers of a point, x, y and width
+abbrev point : (Coordinate → Control) → (Control → ℤ) → List ℤ
+point p number = number (p in-x) ∷ number (p in-y) ∷ number (p in-width) ∷ []
 
 abbrev pub pathOf : Row → Path
 pathOf w =
-    let p : Control = w .control in
-    path (p .p0 ∷ pos 0 ∷ p .p1 ∷ pos 0 ∷ p .p2 ∷ pos 0 ∷ p .p3 ∷ pos 0 ∷ []) 1 (w .level) (w .upper) (w .lower)
+    let p : Coordinate → Control = w .points in
+    path (point p (λ q. q .p0) ++ (point p (λ q. q .p1) ++ (point p (λ q. q .p2) ++ point p (λ q. q .p3)))) 1 (w .level) (w .upper) (w .lower)
 
--- the document's list as numbers: position, x and 0 for each entry
-abbrev pub numbersOf : List ℕ → List ℤ → List ℤ
-numbersOf [] xs = []
-numbersOf (q ∷ qs) [] = []
-numbersOf (q ∷ qs) (x ∷ xs) = pos q ∷ x ∷ pos 0 ∷ numbersOf qs xs
+-- the list as numbers: position, x, y and width of entry i and of those after it
+abbrev numbersFrom : ℕ → List ℕ → (Coordinate → List ℤ) → List ℤ
+numbersFrom i [] shown = []
+numbersFrom i (q ∷ qs) shown =
+    let at : Coordinate → ℤ = λ c. getD (shown c) i (pos 0) in
+    pos q ∷ at in-x ∷ at in-y ∷ at in-width ∷ numbersFrom (suc i) qs shown
+
+abbrev pub numbersOf : Row → List ℤ
+numbersOf w = numbersFrom 0 (w .positions) (w .shown)
 
 -- n numbers −7, as they stand in the lent list before it is drawn into
 abbrev pub unwritten : ℕ → List ℤ
@@ -62,13 +73,13 @@ lent w = unwritten (entrySize * length (w .positions) + 2)
 abbrev pub answer : Row → Drawn
 answer w = drawn finest (pathOf w) (length (lent w))
 
--- drawing answers and writes the document's list and leaves the two numbers after it; measuring answers the same
+-- drawing answers and writes the list and leaves the two numbers after it; measuring answers the same
 pub record Listed (w : Row) : Type 0 where
-  pub paired : length (w .x) ≡ length (w .positions)
+  pub paired : (c : Coordinate) → length (w .shown c) ≡ length (w .positions)
   pub refusal : answer w .refusal ≡ 0
   pub points : answer w .points ≡ length (w .positions)
   pub total : engine.Agrees (w .total) (answer w .length)
-  pub list : written finest (pathOf w) (lent w) ≡ numbersOf (w .positions) (w .x) ++ unwritten 2
+  pub list : written finest (pathOf w) (lent w) ≡ numbersOf w ++ unwritten 2
   pub alike : measured finest (pathOf w) ≡ answer w
 
 pub data Case : Type 0 where
@@ -82,19 +93,25 @@ Holds (draws w) = Listed w
 -- ---- the table
 
 -- limits 65,536 and 32,768
-abbrev row : Control → ℕ → List ℕ → List ℤ → Option ℕ → Row
-row p n qs xs total =
-    record { control = p; level = n; upper = 65536; lower = 32768; positions = qs; x = xs; total = total }
+abbrev row : (Coordinate → Control) → ℕ → List ℕ → (Coordinate → List ℤ) → Option ℕ → Row
+row p n qs shown total =
+    record { points = p; level = n; upper = 65536; lower = 32768; positions = qs; shown = shown; total = total }
+
+-- the document's rows: x moves
+abbrev in-x-alone : Control → ℕ → List ℕ → List ℤ → Option ℕ → Row
+in-x-alone p n qs xs total =
+    let none : List ℤ = replicate (length qs) (pos 0) in
+    row (pick p (engine.flat (pos 0)) (engine.flat (pos 0))) n qs (pick xs none none) total
 
 unfoldable pub moving : List Row
 moving =
     -- A: 0,1,2,3, level 0, limits 65,536 and 32,768: positions 0, 512, 1024, 1536, 2048; x 0, 1, 2, 2, 3; in the listing: length 3000
-    row (engine.line (pos 0) (pos 1) (pos 2) (pos 3)) 0
+    in-x-alone (engine.line (pos 0) (pos 1) (pos 2) (pos 3)) 0
     (0 ∷ 512 ∷ 1024 ∷ 1536 ∷ 2048 ∷ [])
     (pos 0 ∷ pos 1 ∷ pos 2 ∷ pos 2 ∷ pos 3 ∷ [])
     (some 3000)
     -- B: 3,2,1,0, same: x 3, 2, 2, 1, 0
-    ∷ row (engine.line (pos 3) (pos 2) (pos 1) (pos 0)) 0
+    ∷ in-x-alone (engine.line (pos 3) (pos 2) (pos 1) (pos 0)) 0
     (0 ∷ 512 ∷ 1024 ∷ 1536 ∷ 2048 ∷ [])
     (pos 3 ∷ pos 2 ∷ pos 2 ∷ pos 1 ∷ pos 0 ∷ [])
     none
@@ -103,14 +120,28 @@ moving =
 unfoldable pub still : List Row
 still =
     -- K: all points equal, level 5, limits as in A: two entries, positions 0 and 2048; here at 0 and at both ends of the coordinates
-    row (engine.flat (pos 0)) 5 (0 ∷ 2048 ∷ []) (pos 0 ∷ pos 0 ∷ []) none
-    ∷ row (engine.flat (pos 16383)) 5 (0 ∷ 2048 ∷ []) (pos 16383 ∷ pos 16383 ∷ []) none
-    ∷ row (engine.flat (negsuc 16383)) 5 (0 ∷ 2048 ∷ []) (negsuc 16383 ∷ negsuc 16383 ∷ []) none
+    in-x-alone (engine.flat (pos 0)) 5 (0 ∷ 2048 ∷ []) (pos 0 ∷ pos 0 ∷ []) none
+    ∷ in-x-alone (engine.flat (pos 16383)) 5 (0 ∷ 2048 ∷ []) (pos 16383 ∷ pos 16383 ∷ []) none
+    ∷ in-x-alone (engine.flat (negsuc 16383)) 5 (0 ∷ 2048 ∷ []) (negsuc 16383 ∷ negsuc 16383 ∷ []) none
     ∷ []
 
--- A and B, the engine's C to J, K
+unfoldable pub widening : List Row
+widening =
+    -- the width alone moves, widths 0, 682, 1364, 2046, level 0: it takes no part in choosing, so that there are two entries
+    row (pick (engine.flat (pos 0)) (engine.flat (pos 0)) (engine.line (pos 0) (pos 682) (pos 1364) (pos 2046))) 0
+    (0 ∷ 2048 ∷ [])
+    (pick (pos 0 ∷ pos 0 ∷ []) (pos 0 ∷ pos 0 ∷ []) (pos 0 ∷ pos 2046 ∷ []))
+    (some 0)
+    -- x as in A, y as in B, and a lane that narrows from 24 to 9
+    ∷ row (pick (engine.line (pos 0) (pos 1) (pos 2) (pos 3)) (engine.line (pos 3) (pos 2) (pos 1) (pos 0)) (engine.line (pos 24) (pos 19) (pos 14) (pos 9))) 0
+    (0 ∷ 512 ∷ 1024 ∷ 1536 ∷ 2048 ∷ [])
+    (pick (pos 0 ∷ pos 1 ∷ pos 2 ∷ pos 2 ∷ pos 3 ∷ []) (pos 3 ∷ pos 2 ∷ pos 2 ∷ pos 1 ∷ pos 0 ∷ []) (pos 24 ∷ pos 20 ∷ pos 17 ∷ pos 13 ∷ pos 9 ∷ []))
+    (some 4828)
+    ∷ []
+
+-- A and B, the engine's C to J, K, and the width's
 unfoldable pub table : List Case
-table = map draws moving ++ (map calls engine.table ++ map draws still)
+table = map draws moving ++ (map calls engine.table ++ (map draws still ++ map draws widening))
 
 -- ---- one test for all
 
@@ -118,11 +149,11 @@ abbrev tests : Row → List Bool
 tests w =
     let a : Drawn = answer w in
     let m : Drawn = measured finest (pathOf w) in
-    eqb (length (w .x)) (length (w .positions))
+    everyCoordinate (λ c. eqb (length (w .shown c)) (length (w .positions)))
     ∷ eqb (a .refusal) 0
     ∷ eqb (a .points) (length (w .positions))
     ∷ engine.agrees eqb (w .total) (a .length)
-    ∷ eqbℤs (written finest (pathOf w) (lent w)) (numbersOf (w .positions) (w .x) ++ unwritten 2)
+    ∷ eqbℤs (written finest (pathOf w) (lent w)) (numbersOf w ++ unwritten 2)
     ∷ eqb (m .refusal) (a .refusal)
     ∷ eqb (m .points) (a .points)
     ∷ eqb (m .length) (a .length)
@@ -131,6 +162,18 @@ tests w =
 abbrev right : Row → Bool
 right w = every (λ (b : Bool). b) (tests w)
 
+each : (holds : Coordinate → Bool) → T (everyCoordinate holds) → (c : Coordinate) → T (holds c)
+unfolding everyCoordinate
+each holds t =
+    let two = and-yes (holds in-x && holds in-y) (holds in-width) t in
+    let one = and-yes (holds in-x) (holds in-y) (two .0) in
+    λ c. by one two c
+  where
+    by : T (holds in-x) × T (holds in-y) → T (holds in-x && holds in-y) × T (holds in-width) → (c : Coordinate) → T (holds c)
+    by one two in-x = one .0
+    by one two in-y = one .1
+    by one two in-width = two .1
+
 right-listed : (w : Row) → T (right w) → Listed w
 right-listed w t =
     let a = answer w in
@@ -138,11 +181,11 @@ right-listed w t =
     let ts = tested T (λ (b : Bool). b) (λ (b : Bool) t. t) (tests w) t in
     let us = ts .1 .1 .1 .1 .1 in
     record {
-      paired = eqb→eq (length (w .x)) (length (w .positions)) (ts .0);
+      paired = λ c. eqb→eq _ _ (each (λ c. eqb (length (w .shown c)) (length (w .positions))) (ts .0) c);
       refusal = eqb→eq (a .refusal) 0 (ts .1 .0);
       points = eqb→eq (a .points) (length (w .positions)) (ts .1 .1 .0);
       total = engine.agreed eqb eqb→eq (w .total) (a .length) (ts .1 .1 .1 .0);
-      list = eqbℤs→eq (written finest (pathOf w) (lent w)) (numbersOf (w .positions) (w .x) ++ unwritten 2) (ts .1 .1 .1 .1 .0);
+      list = eqbℤs→eq (written finest (pathOf w) (lent w)) (numbersOf w ++ unwritten 2) (ts .1 .1 .1 .1 .0);
       alike =
           λ i. record {
             refusal = eqb→eq (m .refusal) (a .refusal) (us .0) i;
@@ -155,9 +198,10 @@ all-listed : (ws : List Row) → T (every right ws) → All Holds (map draws ws)
 all-listed ws t = all-map Holds draws ws (tested Listed right right-listed ws t)
 
 pub starred : All Holds table
-unfolding table moving still drawn written measured drawRefusal pathRefusal pointsRefusal isSegments isSize arePoints areChained areBeside isCoordinate
+unfolding table moving still widening everyCoordinate drawn written measured drawRefusal pathRefusal pointsRefusal isSegments isSize arePoints areChained areBeside isCoordinate
     areNeighbours isLevel areLimits entries following rest first control pointAt curve startRegisters turns turnsIn choose wantsHalve
     wantsDouble increment doubledIncrement isAligned turned turn shownBy entry pixel flat lengthOf lengthFrom moveLength
 starred =
-    all-append Holds (map draws moving) (map calls engine.table ++ map draws still) (all-listed moving tt)
-    (all-append Holds (map calls engine.table) (map draws still) (all-map Holds calls engine.table engine.starred) (all-listed still tt))
+    all-append Holds (map draws moving) (map calls engine.table ++ (map draws still ++ map draws widening)) (all-listed moving tt)
+    (all-append Holds (map calls engine.table) (map draws still ++ map draws widening) (all-map Holds calls engine.table engine.starred)
+    (all-append Holds (map draws still) (map draws widening) (all-listed still tt) (all-listed widening tt)))

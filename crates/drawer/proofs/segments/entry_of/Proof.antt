@@ -37,7 +37,8 @@ returns c =
     let shown = c .before .shown .ensures in
     let x = toZ-ofZ {w = w32} (record { sfits = fits .0 .1 }) ∙ ap (λ (p : Shown). p .x) shown in
     let y = toZ-ofZ {w = w32} (record { sfits = fits .1 .0 .1 }) ∙ ap (λ (p : Shown). p .y) shown in
-    λ i. record { position = position i; x = x i; y = y i }
+    let width = toZ-ofZ {w = w32} (record { sfits = fits .1 .1 .0 .1 }) ∙ ap (λ (p : Shown). p .width) shown in
+    λ i. record { position = position i; x = x i; y = y i; width = width i }
 
 pub entry-of-spec : {M : Type 1} → statement M
 entry-of-spec = tie.close (tie.spec add-position shown-requires cast-t6 returns)

@@ -18,22 +18,27 @@ control-of-requires c κs = search needs
 control-of-requires-2 : tie.Need-control-of-requires-2
 control-of-requires-2 c κs = search needs
 
+control-of-requires-3 : tie.Need-control-of-requires-3
+control-of-requires-3 c κs = search needs
+
 start-requires : tie.Need-start-requires
 start-requires c κs = search needs
 
 returns : tie.Need-returns
 unfolding first
 returns c =
-    let a = c .before .before .before .before .args in
-    let x = c .before .before .before .control-of .ensures in
-    let y = c .before .before .control-of2 .ensures in
+    let s = c .before .before .before .before .before in
+    let a = s .args in
+    let x = c .before .before .before .before .control-of .ensures in
+    let y = c .before .before .before .control-of2 .ensures in
+    let width = c .before .before .control-of3 .ensures in
     let p = controls (a .points .now) (a .k) in
     ap (λ (m : Moved). m .drawing)
     (c .before .start .ensures
-    ∙ (λ i. started finest (pick (x i) (y i)) (a .level))
+    ∙ (λ i. started finest (pick (x i) (y i) (width i)) (a .level))
     ∙ ap (λ (p : Coordinate → Control). started finest p (a .level)) (picked p)
-    ∙ start-begins finest p (a .level) (c .before .before .before .before .pre .accepted))
+    ∙ start-begins finest p (a .level) (s .pre .accepted))
 
 pub first-of-spec : {M : Type 1} → statement M
 first-of-spec =
-    tie.close (tie.spec control-of-requires control-of-requires-2 start-requires returns)
+    tie.close (tie.spec control-of-requires control-of-requires-2 control-of-requires-3 start-requires returns)
