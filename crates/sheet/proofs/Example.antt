@@ -1,10 +1,10 @@
--- Document 01's own sheet, path A in 36 bytes, and the sixteen bits of a number below 0. They fix what no round trip does: the order of a
--- number's bytes, of upper and lower, of segments and level, of x and y, and the sign.
+-- Two sheets in bytes: document 01's path A with widths 0, and a lane that narrows; and the sixteen bits of a number below 0. They fix what no
+-- round trip does: the order of a number's bytes, of upper and lower, of segments and level, of x, y and width, and the sign.
 use mathlib.Core.Path.{_≡_, refl}
 use mathlib.Core.List.{List, [], _∷_}
 use Prim.Native.Nat.{ℕ, suc, _+_, _<_}
 use native.Mathlib.Omega.{arith}
-use lib.IntN.{pos, negsuc}
+use lib.IntN.{ℤ, pos, negsuc}
 use Rattle.rules.specs.Rules.{
   isCoordinate,
   areNeighbours,
@@ -23,32 +23,88 @@ use Rattle.sheet.specs.Records.{recordAt, recordsAt, sheetAt}
 use Rattle.sheet.specs.PathRules.{pathRules}
 use Rattle.sheet.specs.Reading.{isOffset, bodyRefusal, recordRefusal, recordsRefusal, sheetRefusal}
 
+-- ---- path A
+
 -- In hex: 01000000 00000100 00800000, the count and the limits; 10000000, the offset; 01000000, segments and level;
--- 00000000 01000000 02000000 03000000, the points.
+-- 0000 0000 0000, 0100 0000 0000, 0200 0000 0000, 0300 0000 0000, the points.
 abbrev pub documentBytes : List ℕ
 documentBytes =
     1 ∷ 0 ∷ 0 ∷ 0 ∷ 0 ∷ 0 ∷ 1 ∷ 0 ∷ 0 ∷ 128 ∷ 0 ∷ 0
     ∷ 16 ∷ 0 ∷ 0 ∷ 0
     ∷ 1 ∷ 0 ∷ 0 ∷ 0
-    ∷ 0 ∷ 0 ∷ 0 ∷ 0 ∷ 1 ∷ 0 ∷ 0 ∷ 0 ∷ 2 ∷ 0 ∷ 0 ∷ 0 ∷ 3 ∷ 0 ∷ 0 ∷ 0
+    ∷ 0 ∷ 0 ∷ 0 ∷ 0 ∷ 0 ∷ 0 ∷ 1 ∷ 0 ∷ 0 ∷ 0 ∷ 0 ∷ 0 ∷ 2 ∷ 0 ∷ 0 ∷ 0 ∷ 0 ∷ 0 ∷ 3 ∷ 0 ∷ 0 ∷ 0 ∷ 0 ∷ 0
     ∷ []
 
--- one path of one segment from level 0, under the limits 65,536 and 32,768; x 0, 1, 2, 3 and y 0 throughout
+-- one path of one segment from level 0, under the limits 65,536 and 32,768; x 0, 1, 2, 3, y and width 0 throughout
 abbrev pub pathA : Sheet
 pathA =
     record {
       upper = 65536;
       lower = 32768;
-      paths = record { segments = 1; level = 0; points = pos 0 ∷ pos 0 ∷ pos 1 ∷ pos 0 ∷ pos 2 ∷ pos 0 ∷ pos 3 ∷ pos 0 ∷ [] } ∷ [];
+      paths =
+          record {
+            segments = 1;
+            level = 0;
+            points = pos 0 ∷ pos 0 ∷ pos 0 ∷ pos 1 ∷ pos 0 ∷ pos 0 ∷ pos 2 ∷ pos 0 ∷ pos 0 ∷ pos 3 ∷ pos 0 ∷ pos 0 ∷ [];
+          }
+          ∷ [];
     }
 
-pub document-sheet : (sheetBytes pathA ≡ documentBytes) × (sheetRefusal documentBytes ≡ 0)
-    × (sheetNumbers (sheetAt documentBytes)
-    ≡ pos 1 ∷ pos 65536 ∷ pos 32768 ∷ pos 1 ∷ pos 0 ∷ pos 0 ∷ pos 0 ∷ pos 1 ∷ pos 0 ∷ pos 2 ∷ pos 0 ∷ pos 3 ∷ pos 0 ∷ [])
+abbrev pub documentNumbers : List ℤ
+documentNumbers =
+    pos 1 ∷ pos 65536 ∷ pos 32768 ∷ pos 1 ∷ pos 0
+    ∷ pos 0 ∷ pos 0 ∷ pos 0 ∷ pos 1 ∷ pos 0 ∷ pos 0 ∷ pos 2 ∷ pos 0 ∷ pos 0 ∷ pos 3 ∷ pos 0 ∷ pos 0
+    ∷ []
+
+-- ---- a lane that narrows
+
+-- In hex: 01000000 00010000 10000000; 10000000; 01000300; 0000 0a00 2c01, 0100 0900 c800, 0200 0800 6400, 0300 0700 ffff.
+abbrev pub laneBytes : List ℕ
+laneBytes =
+    1 ∷ 0 ∷ 0 ∷ 0 ∷ 0 ∷ 1 ∷ 0 ∷ 0 ∷ 16 ∷ 0 ∷ 0 ∷ 0
+    ∷ 16 ∷ 0 ∷ 0 ∷ 0
+    ∷ 1 ∷ 0 ∷ 3 ∷ 0
+    ∷ 0 ∷ 0 ∷ 10 ∷ 0 ∷ 44 ∷ 1 ∷ 1 ∷ 0 ∷ 9 ∷ 0 ∷ 200 ∷ 0 ∷ 2 ∷ 0 ∷ 8 ∷ 0 ∷ 100 ∷ 0 ∷ 3 ∷ 0 ∷ 7 ∷ 0 ∷ 255 ∷ 255
+    ∷ []
+
+-- one path of one segment from level 3, under the limits 256 and 16; x 0, 1, 2, 3, y 10, 9, 8, 7 and width 300, 200, 100, −1
+abbrev pub lane : Sheet
+lane =
+    record {
+      upper = 256;
+      lower = 16;
+      paths =
+          record {
+            segments = 1;
+            level = 3;
+            points = pos 0 ∷ pos 10 ∷ pos 300 ∷ pos 1 ∷ pos 9 ∷ pos 200 ∷ pos 2 ∷ pos 8 ∷ pos 100 ∷ pos 3 ∷ pos 7 ∷ negsuc 0 ∷ [];
+          }
+          ∷ [];
+    }
+
+abbrev pub laneNumbers : List ℤ
+laneNumbers =
+    pos 1 ∷ pos 256 ∷ pos 16 ∷ pos 1 ∷ pos 3
+    ∷ pos 0 ∷ pos 10 ∷ pos 300 ∷ pos 1 ∷ pos 9 ∷ pos 200 ∷ pos 2 ∷ pos 8 ∷ pos 100 ∷ pos 3 ∷ pos 7 ∷ negsuc 0
+    ∷ []
+
+-- ---- what they are
+
+-- the bytes are those of the sheet, and are read as these numbers
+abbrev pub Stored : Sheet → List ℕ → List ℤ → Type 0
+Stored s b l = (sheetBytes s ≡ b) × (sheetRefusal b ≡ 0) × (sheetNumbers (sheetAt b) ≡ l)
+
+sheets : Stored pathA documentBytes documentNumbers × Stored lane laneBytes laneNumbers
 unfolding sheetBytes offsets records recordBytes valueBytes sheetAt recordsAt recordAt valuesAt sheetNumbers pathNumbers sheetRefusal
     recordsRefusal recordRefusal bodyRefusal isOffset pathRules headRefusal pointsRefusal areLimits isSegments isLevel arePoints isCoordinate
     areChained areBeside areNeighbours
-document-sheet = (refl, refl, refl)
+sheets = ((refl, refl, refl), (refl, refl, refl))
+
+pub document-sheet : Stored pathA documentBytes documentNumbers
+document-sheet = sheets .0
+
+pub lane-sheet : Stored lane laneBytes laneNumbers
+lane-sheet = sheets .1
 
 -- n is stored as it is, and −(n + 1) with 65,536 added
 pub twos-complement : (n : ℕ) → n < 32768 → (bits16 (pos n) ≡ n) × (bits16 (negsuc n) + suc n ≡ 65536)

@@ -1,11 +1,13 @@
 -- Reading the bytes of a right sheet gives the sheet back, without a refusal.
 use mathlib.Core.Path.{_≡_, refl, sym, ap, ap₂, _∙_}
+use mathlib.Core.Bool.{true}
 use mathlib.Core.List.{List, [], _∷_, _++_, append-assoc}
 use Prim.Native.Nat.{ℕ, _+_, _≤_}
 use native.Mathlib.Omega.{arith}
 use borrow.Author.Tests.{le-leb, eq-eqb}
 use lib.ListN.{length, length-append}
 use Rattle.numbers.specs.Tables.{All}
+use Rattle.rules.specs.Rules.{areLimits}
 use Rattle.rules.proofs.Refusals.{first-on}
 use Rattle.rules.proofs.Laws.{limits-hold, Sized, size-holds}
 use Rattle.sheet.specs.Bytes.{le16, le32, valueBytes, u16At, u32At, valuesAt}
@@ -18,23 +20,23 @@ use Rattle.sheet.proofs.PathRules.{kept-rules, right-kept}
 use Rattle.sheet.proofs.Reading.{records-end, Headed, headed-accepted}
 
 -- in b stand the offsets of the paths ps, from offset k on, and their records, from p on to the end
-record Stands (b : List ℕ) (ps : List Target) (k p : ℕ) : Type 0 where
-  before : List ℕ
-  after : List ℕ
-  table : b ≡ before ++ (offsets p ps ++ after)
-  place : headSize k ≡ length before
-  front : List ℕ
-  body : b ≡ front ++ records ps
-  start : p ≡ length front
+pub record Stands (b : List ℕ) (ps : List Target) (k p : ℕ) : Type 0 where
+  pub before : List ℕ
+  pub after : List ℕ
+  pub table : b ≡ before ++ (offsets p ps ++ after)
+  pub place : headSize k ≡ length before
+  pub front : List ℕ
+  pub body : b ≡ front ++ records ps
+  pub start : p ≡ length front
 
-stands-end : (b : List ℕ) (k p : ℕ) → Stands b [] k p → p ≡ length b
+pub stands-end : (b : List ℕ) (k p : ℕ) → Stands b [] k p → p ≡ length b
 unfolding records
 stands-end b k p s = omega (arith, ap length (s .body), length-append (s .front) [])
 
 -- ---- one path
 
 module _ (b : List ℕ) (q : Target) (ps : List Target) (k p : ℕ) (s : Stands b (q ∷ ps) k p) where
-  next-stands : Stands b ps (k + 1) (p + length (recordBytes q))
+  pub next-stands : Stands b ps (k + 1) (p + length (recordBytes q))
   unfolding offsets records
   next-stands =
       record {
@@ -50,21 +52,21 @@ module _ (b : List ℕ) (q : Target) (ps : List Target) (k p : ℕ) (s : Stands 
   stands-fits : p + length (recordBytes q) ≤ length b
   stands-fits = omega (arith, next-stands .start, ap length (next-stands .body), length-append (next-stands .front) (records ps))
 
-  offset-back : length b ≤ mostBytes → u32At b (headSize k) ≡ p
+  pub offset-back : length b ≤ mostBytes → u32At b (headSize k) ≡ p
   unfolding offsets
   offset-back h =
       u32-at b (s .before) (offsets p (q ∷ ps) ++ s .after) _ (s .table) (s .place)
       ∙ u32-back p (offsets (p + length (recordBytes q)) ps ++ s .after) (omega (arith, stands-fits))
 
+  pub segments-back : q .segments ≤ 64 → u16At b p ≡ q .segments
+  unfolding records recordBytes
+  segments-back h =
+      let rest = le16 (q .level) ++ (valueBytes (q .points) ++ records ps) in
+      u16-at b (s .front) (le16 (q .segments) ++ rest) p (s .body) (s .start) ∙ u16-back (q .segments) rest (omega arith)
+
   module _ (r : RightPath q) where
     sized : Sized (q .segments) (length (q .points))
     sized = size-holds (q .segments) (length (q .points)) (r .size)
-
-    segments-back : u16At b p ≡ q .segments
-    unfolding records recordBytes
-    segments-back =
-        let rest = le16 (q .level) ++ (valueBytes (q .points) ++ records ps) in
-        u16-at b (s .front) (le16 (q .segments) ++ rest) p (s .body) (s .start) ∙ u16-back (q .segments) rest (omega (arith, sized .most))
 
     level-back : u16At b (p + 2) ≡ q .level
     unfolding records recordBytes
@@ -85,10 +87,10 @@ module _ (b : List ℕ) (q : Target) (ps : List Target) (k p : ℕ) (s : Stands 
 
     record-back : recordAt b p ≡ q
     unfolding recordAt
-    record-back = rw (segments-back, level-back, ← (sized .size), points-back)
+    record-back = rw (segments-back (sized .most), level-back, ← (sized .size), points-back)
 
     end-back : recordEnd b p ≡ p + length (recordBytes q)
-    end-back = omega (arith, segments-back, length-record q, sized .size)
+    end-back = omega (arith, segments-back (sized .most), length-record q, sized .size)
 
     record-accepted : length b ≤ mostBytes → recordRefusal b k p ≡ 0
     unfolding recordRefusal bodyRefusal isOffset
@@ -112,7 +114,7 @@ records-back b (q ∷ ps) k p h s r =
 
 -- ---- the whole sheet
 
-sheet-stands : (s : Sheet) → Stands (sheetBytes s) (s .paths) 0 (headSize (length (s .paths)))
+pub sheet-stands : (s : Sheet) → Stands (sheetBytes s) (s .paths) 0 (headSize (length (s .paths)))
 unfolding sheetBytes
 sheet-stands s =
     let N = length (s .paths) in
@@ -126,16 +128,16 @@ sheet-stands s =
       start = omega (arith, length-offsets (headSize N) (s .paths));
     }
 
-header-back : (s : Sheet) → Right s
+pub header-back : (s : Sheet) → length (s .paths) ≤ 1024 → areLimits (s .upper) (s .lower) ≡ true
     → (u32At (sheetBytes s) 0 ≡ length (s .paths)) × (u32At (sheetBytes s) 4 ≡ s .upper) × (u32At (sheetBytes s) 8 ≡ s .lower)
 unfolding sheetBytes
-header-back s r =
+header-back s few limits =
     let N = length (s .paths) in
     let rest = offsets (headSize N) (s .paths) ++ records (s .paths) in
     let lower = le32 (s .lower) ++ rest in
     let upper = le32 (s .upper) ++ lower in
-    let limits = limits-hold (s .upper) (s .lower) (r .limits) in (
-      u32-back N upper (omega (arith, r .few)),
+    let bounds = limits-hold (s .upper) (s .lower) limits in (
+      u32-back N upper (omega arith),
       u32-at _ (le32 N) upper 4 refl refl ∙ u32-back (s .upper) lower (omega arith),
       u32-at _ (le32 N ++ le32 (s .upper)) lower 8 refl refl ∙ u32-back (s .lower) rest (omega arith),
     )
@@ -143,7 +145,7 @@ header-back s r =
 pub reads-back : (s : Sheet) → Right s → (sheetAt (sheetBytes s) ≡ s) × (sheetRefusal (sheetBytes s) ≡ 0)
 unfolding sheetAt
 reads-back s r =
-    let header = header-back s r in
+    let header = header-back s (r .few) (r .limits) in
     let records = records-back (sheetBytes s) (s .paths) 0 (headSize (length (s .paths))) (r .fits) (sheet-stands s) (r .paths) in
     let accepted : Headed (sheetBytes s) =
     record {

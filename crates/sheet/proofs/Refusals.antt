@@ -64,15 +64,15 @@ module _ (b : List ℕ) (k p : ℕ) where
 
 -- ---- one path, in a sheet and in a number list
 
--- a record at p: 15 for its first four bytes, 14, 3, 15 for its 3S + 1 points of two bytes in x and in y, then 1 and 2
+-- a record at p: 15 for its first four bytes, 14, 3, 15 for its 3S + 1 points of two bytes in x, in y and in width, then 1 and 2
 pub record-order : (b : List ℕ) (p : ℕ)
-    → PathOrder (bodyRefusal b p) 15 (p + 4) (p + 4 + 2 * (2 * (3 * u16At b p + 1))) (length b) (recordAt b p)
+    → PathOrder (bodyRefusal b p) 15 (p + 4) (p + 4 + 2 * (3 * (3 * u16At b p + 1))) (length b) (recordAt b p)
 unfolding bodyRefusal
 record-order b p = rules-in-order 15 (p + 4) (recordEnd b p) (length b) (recordAt b p)
 
--- a path at i: 17 for its first two numbers, 14, 3, 17 for its 3S + 1 points of two numbers, then 1 and 2
+-- a path at i: 17 for its first two numbers, 14, 3, 17 for its 3S + 1 points of three numbers, then 1 and 2
 pub path-order : (l : List ℤ) (i : ℕ)
-    → PathOrder (pathRefusal l i) 17 (i + 2) (i + 2 + 2 * (3 * numberAt l i + 1)) (length l) (pathAt l i)
+    → PathOrder (pathRefusal l i) 17 (i + 2) (i + 2 + 3 * (3 * numberAt l i + 1)) (length l) (pathAt l i)
 unfolding pathRefusal
 path-order l i = rules-in-order 17 (i + 2) (pathEnd l i) (length l) (pathAt l i)
 

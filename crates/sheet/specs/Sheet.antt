@@ -9,7 +9,7 @@ use Rattle.numbers.specs.Tables.{All}
 use Rattle.rules.specs.Rules.{finest, reach, isLevel, areLimits, isSize, arePoints, areChained}
 use Rattle.sheet.specs.Bytes.{valueSize, le16, le32, valueBytes}
 
--- one path of a sheet; points: x0, y0, x1, y1, ..
+-- one path of a sheet; points: x0, y0, width0, x1, y1, width1, ..
 pub record Target : Type 0 where
   pub segments : ℕ
   pub level : ℕ
@@ -33,7 +33,7 @@ offsetSize = 4
 abbrev pub headSize : ℕ → ℕ
 headSize N = leastBytes + offsetSize * N
 
--- segments, start level, and x and y of each point
+-- segments, start level, and x, y and width of each point
 unfoldable pub recordBytes : Target → List ℕ
 recordBytes p = le16 (p .segments) ++ (le16 (p .level) ++ valueBytes (p .points))
 
