@@ -13,3 +13,4 @@ pub mod RoundTrips
 pub mod Demand1
 pub mod Refusals
 pub mod Example
+pub mod OldForm

@@ -7,7 +7,7 @@ use native.Mathlib.Omega.{arith}
 use borrow.Author.Tests.{le-leb, eq-eqb}
 use lib.ListN.{length, length-append}
 use Rattle.numbers.specs.Tables.{All}
-use Rattle.rules.specs.Rules.{areLimits}
+use Rattle.rules.specs.Rules.{finest, isLevel, areLimits, isSegments}
 use Rattle.rules.proofs.Refusals.{first-on}
 use Rattle.rules.proofs.Laws.{limits-hold, Sized, size-holds}
 use Rattle.sheet.specs.Bytes.{le16, le32, valueBytes, u16At, u32At, valuesAt}
@@ -15,7 +15,7 @@ use Rattle.sheet.specs.Sheet.{Target, Sheet, headSize, recordBytes, reco
 use Rattle.sheet.specs.Records.{recordAt, recordEnd, recordsAt, sheetAt}
 use Rattle.sheet.specs.Reading.{isOffset, bodyRefusal, recordRefusal, recordsRefusal, sheetRefusal}
 use Rattle.sheet.proofs.Bytes.{u16-at, u32-at, u16-back, u32-back, bits-small, values-back}
-use Rattle.sheet.proofs.Sheets.{length-record, length-offsets, length-bytes, level-short, points-short}
+use Rattle.sheet.proofs.Sheets.{length-record, length-offsets, length-bytes, segments-short, level-short, points-short}
 use Rattle.sheet.proofs.PathRules.{kept-rules, right-kept}
 use Rattle.sheet.proofs.Reading.{records-end, Headed, headed-accepted}
 
@@ -58,24 +58,28 @@ module _ (b : List ℕ) (q : Target) (ps : List Target) (k p : ℕ) (s : Stands 
       u32-at b (s .before) (offsets p (q ∷ ps) ++ s .after) _ (s .table) (s .place)
       ∙ u32-back p (offsets (p + length (recordBytes q)) ps ++ s .after) (omega (arith, stands-fits))
 
-  pub segments-back : q .segments ≤ 64 → u16At b p ≡ q .segments
+  pub segments-back : isSegments (q .segments) ≡ true → u16At b p ≡ q .segments
   unfolding records recordBytes
   segments-back h =
       let rest = le16 (q .level) ++ (valueBytes (q .points) ++ records ps) in
-      u16-at b (s .front) (le16 (q .segments) ++ rest) p (s .body) (s .start) ∙ u16-back (q .segments) rest (omega arith)
+      u16-at b (s .front) (le16 (q .segments) ++ rest) p (s .body) (s .start)
+      ∙ u16-back (q .segments) rest (bits-small (segments-short (q .segments) h))
+
+  pub level-back : isLevel finest (q .level) ≡ true → u16At b (p + 2) ≡ q .level
+  unfolding records recordBytes
+  level-back h =
+      let front = le16 (q .segments) in
+      let rest = valueBytes (q .points) ++ records ps in
+      let body = s .body ∙ sym (append-assoc (s .front) front (le16 (q .level) ++ rest)) in
+      u16-at b (s .front ++ front) (le16 (q .level) ++ rest) (p + 2) body (omega (arith, s .start, length-append (s .front) front))
+      ∙ u16-back (q .level) rest (bits-small (level-short (q .level) h))
 
   module _ (r : RightPath q) where
     sized : Sized (q .segments) (length (q .points))
     sized = size-holds (q .segments) (length (q .points)) (r .size)
 
-    level-back : u16At b (p + 2) ≡ q .level
-    unfolding records recordBytes
-    level-back =
-        let front = le16 (q .segments) in
-        let rest = valueBytes (q .points) ++ records ps in
-        let body = s .body ∙ sym (append-assoc (s .front) front (le16 (q .level) ++ rest)) in
-        u16-at b (s .front ++ front) (le16 (q .level) ++ rest) (p + 2) body (omega (arith, s .start, length-append (s .front) front))
-        ∙ u16-back (q .level) rest (bits-small (level-short (q .level) (r .level)))
+    segments : isSegments (q .segments) ≡ true
+    segments = right-kept refl refl r .segments
 
     points-back : valuesAt b (p + 4) (length (q .points)) ≡ q .points
     unfolding records recordBytes
@@ -87,10 +91,10 @@ module _ (b : List ℕ) (q : Target) (ps : List Target) (k p : ℕ) (s : Stands 
 
     record-back : recordAt b p ≡ q
     unfolding recordAt
-    record-back = rw (segments-back (sized .most), level-back, ← (sized .size), points-back)
+    record-back = rw (segments-back segments, level-back (r .level), ← (sized .size), points-back)
 
     end-back : recordEnd b p ≡ p + length (recordBytes q)
-    end-back = omega (arith, segments-back (sized .most), length-record q, sized .size)
+    end-back = omega (arith, segments-back segments, length-record q, sized .size)
 
     record-accepted : length b ≤ mostBytes → recordRefusal b k p ≡ 0
     unfolding recordRefusal bodyRefusal isOffset

@@ -7,3 +7,4 @@ pub mod Reading
 pub mod Writing
 pub mod Answer
 pub mod Demand2
+pub mod OldForm

@@ -1,0 +1,138 @@
+-- A sheet of the old form with any path in it is refused. Its header and its first record's place and segments read the same in both forms, but
+-- with a width for each point the record ends further on: not where the next offset says, and after a single path not where the sheet ends.
+use mathlib.Core.Path.{_≡_, refl, sym, _∙_}
+use mathlib.Core.Bool.{true}
+use mathlib.Core.List.{List, [], _∷_, map}
+use Prim.Native.Nat.{ℕ, _+_, _≤_, _<_}
+use native.Mathlib.Omega.{arith}
+use lib.IntN.{pos}
+use lib.ListN.{length, length-map}
+use Rattle.numbers.specs.Tables.{All}
+use Rattle.rules.specs.Rules.{
+  finest,
+  isCoordinate,
+  areNeighbours,
+  isLevel,
+  areLimits,
+  isSegments,
+  pointNumbers,
+  headRefusal,
+  arePoints,
+  areBeside,
+}
+use Rattle.rules.proofs.Refusals.{first-kept}
+use Rattle.sheet.specs.Bytes.{valueBytes}
+use Rattle.sheet.specs.Sheet.{Target, Sheet, mostBytes, recordBytes, records, offsets, sheetBytes, Right}
+use Rattle.sheet.specs.Records.{recordAt, recordEnd}
+use Rattle.sheet.specs.PathRules.{pathRules}
+use Rattle.sheet.specs.Reading.{isOffset, bodyRefusal, recordRefusal, recordsRefusal, sheetRefusal, readRefusal}
+use Rattle.sheet.specs.Answer.{readAnswer}
+use Rattle.sheet.specs.OldForm.{Place, OldPath, OldSheet, placeNumbers, oldTarget, oldParts, oldBytes, OldRightPath, OldRight}
+use Rattle.sheet.proofs.Sheets.{length-record, length-bytes}
+use Rattle.sheet.proofs.Room.{room-accepted}
+use Rattle.sheet.proofs.Reading.{records-stop, records-done, record-held, headed}
+use Rattle.sheet.proofs.ReadsBack.{Stands, stands-end, next-stands, offset-back, segments-back, level-back, sheet-stands, header-back, reads-back}
+use Rattle.sheet.proofs.Refusals.{sheet-refuses-by-records, record-refuses-by-body, record-order}
+
+-- records that are read without a refusal from a place on stand there: the next offset says so, or the sheet's end
+place-found : (b : List ℕ) (ps : List Target) (k p place : ℕ) → length b ≤ mostBytes → Stands b ps k p → recordsRefusal b (length ps) k place ≡ 0
+    → place ≡ p
+unfolding recordsRefusal
+place-found b [] k p place h s e = records-done b k place e ∙ sym (stands-end b k p s)
+place-found b (q ∷ ps) k p place h s e =
+    sym (record-held b k place (first-kept (recordRefusal b k place) _ e .0) .offset) ∙ offset-back b q ps k p s h
+
+-- so the first of them has as many numbers as its segments say
+size-found : (b : List ℕ) (q : Target) (ps : List Target) (k p : ℕ) → length b ≤ mostBytes → Stands b (q ∷ ps) k p → isSegments (q .segments) ≡ true
+    → recordsRefusal b (length (q ∷ ps)) k p ≡ 0 → length (q .points) ≡ pointNumbers (q .segments)
+unfolding recordsRefusal
+size-found b q ps k p h s segments e =
+    let next = next-stands b q ps k p s in
+    let end = place-found b ps (k + 1) (p + length (recordBytes q)) (recordEnd b p) h next (first-kept (recordRefusal b k p) _ e .1) in
+    omega (arith, end, segments-back b q ps k p s segments, length-record q)
+
+-- which in the old form it has not
+records-refused : (b : List ℕ) (ps : List OldPath) (k p : ℕ) → length b ≤ mostBytes → Stands b (map oldTarget ps) k p → All OldRightPath ps
+    → 0 < length ps → recordsRefusal b (length (map oldTarget ps)) k p ≡ 0 → ⊥
+unfolding oldTarget
+records-refused b [] k p h s r some e = omega arith
+records-refused b (q ∷ ps) k p h s r some e =
+    omega (arith, size-found b (oldTarget q) (map oldTarget ps) k p h s (r .0 .segments) e, r .0 .size)
+
+pub old-form-refused : (s : OldSheet) → OldRight s → 0 < length (s .paths) → sheetRefusal (oldBytes s) ≡ 0 → ⊥
+unfolding oldParts
+old-form-refused s r some e =
+    let count = header-back (oldParts s) (rw (length-map (s .paths) oldTarget) (r .few)) (r .limits) .0 in
+    records-refused (oldBytes s) (s .paths) 0 _ (r .fits) (sheet-stands (oldParts s)) (r .paths) some (rw count at (headed (oldBytes s) e .records))
+
+-- into a list of any room
+pub old-form-not-read : (s : OldSheet) (room : ℕ) → OldRight s → 0 < length (s .paths) → readAnswer (oldBytes s) room .refusal ≡ 0 → ⊥
+unfolding readAnswer readRefusal
+old-form-not-read s room r some e = old-form-refused s r some (room-accepted (sheetRefusal (oldBytes s)) _ room e .0)
+
+-- ---- one path: 15
+
+-- the last record, where it has fewer numbers than its segments say
+record-cut : (b : List ℕ) (q : Target) (k p : ℕ) → length b ≤ mostBytes → Stands b (q ∷ []) k p → isSegments (q .segments) ≡ true
+    → isLevel finest (q .level) ≡ true → length (q .points) < pointNumbers (q .segments) → recordRefusal b k p ≡ 15
+unfolding recordAt
+record-cut b q k p h s segments level short =
+    let S = segments-back b q [] k p s segments in
+    let n = level-back b q [] k p s level in
+    let end = stands-end b (k + 1) (p + length (recordBytes q)) (next-stands b q [] k p s) in
+    record-refuses-by-body b k p (offset-back b q [] k p s h)
+    ∙ record-order b p .cut (omega (arith, end, length-record q)) (rw S segments) (rw n level) (omega (arith, end, length-record q, S))
+
+pub one-path-refused-15 : (upper lower : ℕ) (p : OldPath) → let s : OldSheet = record { upper = upper; lower = lower; paths = p ∷ [] } in
+    OldRight s → sheetRefusal (oldBytes s) ≡ 15
+unfolding oldParts oldTarget
+one-path-refused-15 upper lower p r =
+    let s = oldParts (record { upper = upper; lower = lower; paths = p ∷ [] }) in
+    let b = sheetBytes s in
+    let header = header-back s (r .few) (r .limits) in
+    let q = r .paths .0 in
+    let cut = record-cut b (oldTarget p) 0 16 (r .fits) (sheet-stands s) (q .segments) (q .level) (omega (arith, q .size)) in
+    let size : 16 ≤ length b = omega (arith, length-bytes s) in
+    sheet-refuses-by-records b (omega arith) (r .fits) (rw (header .0) (r .few)) (rw (header .0) size) (rw (header .1, header .2) (r .limits))
+    ∙ rw (header .0) (records-stop b 1 0 16 (omega arith) (λ e. omega (arith, cut, e)) ∙ cut)
+
+-- ---- no path: both forms are the same 12 bytes, and accepted
+
+pub no-path-accepted : (upper lower : ℕ) → areLimits upper lower ≡ true
+    → let old : OldSheet = record { upper = upper; lower = lower; paths = [] } in
+    let new : Sheet = record { upper = upper; lower = lower; paths = [] } in
+    OldRight old × Right new × (oldBytes old ≡ sheetBytes new) × (length (sheetBytes new) ≡ 12) × (sheetRefusal (sheetBytes new) ≡ 0)
+unfolding oldParts sheetBytes offsets records
+no-path-accepted upper lower limits =
+    let new : Sheet = record { upper = upper; lower = lower; paths = [] } in
+    let right : Right new = record { few = omega arith; limits = limits; paths = tt; fits = omega arith } in
+    let old : OldRight (record { upper = upper; lower = lower; paths = [] }) =
+    record { few = omega arith; limits = limits; paths = tt; fits = omega arith } in
+    (old, right, refl, refl, reads-back new right .1)
+
+-- ---- document 01's own sheet, path A in 36 bytes
+
+-- In hex: 01000000 00000100 00800000 10000000 01000000 00000000 01000000 02000000 03000000.
+abbrev pub oldDocumentBytes : List ℕ
+oldDocumentBytes =
+    1 ∷ 0 ∷ 0 ∷ 0 ∷ 0 ∷ 0 ∷ 1 ∷ 0 ∷ 0 ∷ 128 ∷ 0 ∷ 0
+    ∷ 16 ∷ 0 ∷ 0 ∷ 0
+    ∷ 1 ∷ 0 ∷ 0 ∷ 0
+    ∷ 0 ∷ 0 ∷ 0 ∷ 0 ∷ 1 ∷ 0 ∷ 0 ∷ 0 ∷ 2 ∷ 0 ∷ 0 ∷ 0 ∷ 3 ∷ 0 ∷ 0 ∷ 0
+    ∷ []
+
+-- one path of one segment from level 0, under the limits 65,536 and 32,768; x 0, 1, 2, 3 and y 0 throughout
+abbrev pathA : OldPath
+pathA =
+    let at : ℕ → Place = λ x. record { x = pos x; y = pos 0 } in
+    record { segments = 1; level = 0; points = at 0 ∷ at 1 ∷ at 2 ∷ at 3 ∷ [] }
+
+abbrev pub oldPathA : OldSheet
+oldPathA = record { upper = 65536; lower = 32768; paths = pathA ∷ [] }
+
+pub old-document-sheet : OldRight oldPathA × (oldBytes oldPathA ≡ oldDocumentBytes) × (sheetRefusal oldDocumentBytes ≡ 15)
+unfolding oldParts oldTarget placeNumbers sheetBytes offsets records recordBytes valueBytes sheetRefusal recordsRefusal recordRefusal bodyRefusal
+    isOffset pathRules headRefusal areLimits isSegments isLevel arePoints isCoordinate areBeside areNeighbours recordAt
+old-document-sheet =
+    let path : OldRightPath pathA = record { segments = refl; size = refl; level = refl; points = refl; chained = refl } in
+    (record { few = omega arith; limits = refl; paths = (path, tt); fits = omega arith }, refl, refl)

@@ -1,0 +1,61 @@
+-- The old form of a sheet, as document 01 has it: a point is x and y, without a width. It stands here for what is proved of it: a sheet of the
+-- old form with any path in it is refused.
+use mathlib.Core.Path.{_≡_}
+use mathlib.Core.Bool.{true}
+use mathlib.Core.List.{List, [], _∷_, map}
+use Prim.Native.Nat.{ℕ, _+_, _*_, _≤_}
+use lib.IntN.{ℤ}
+use lib.ListN.{length, drop}
+use Rattle.numbers.specs.Tables.{All}
+use Rattle.rules.specs.Rules.{finest, reach, isLevel, areLimits, isSegments, arePoints, areBeside}
+use Rattle.sheet.specs.Sheet.{Target, Sheet, sheetBytes}
+
+pub record Place : Type 0 where
+  pub x : ℤ
+  pub y : ℤ
+
+-- one path of a sheet
+pub record OldPath : Type 0 where
+  pub segments : ℕ
+  pub level : ℕ
+  pub points : List Place
+
+pub record OldSheet : Type 0 where
+  pub upper : ℕ
+  pub lower : ℕ
+  pub paths : List OldPath
+
+-- ---- its bytes
+
+-- x0, y0, x1, y1, ..
+unfoldable pub placeNumbers : List Place → List ℤ
+placeNumbers [] = []
+placeNumbers (p ∷ ps) = p .x ∷ p .y ∷ placeNumbers ps
+
+-- segments, start level, and x and y of each point
+unfoldable pub oldTarget : OldPath → Target
+oldTarget p = record { segments = p .segments; level = p .level; points = placeNumbers (p .points) }
+
+unfoldable pub oldParts : OldSheet → Sheet
+oldParts s = record { upper = s .upper; lower = s .lower; paths = map oldTarget (s .paths) }
+
+-- header, offsets and records are made alike in both forms: they do not know how many numbers a point has
+abbrev pub oldBytes : OldSheet → List ℕ
+oldBytes s = sheetBytes (oldParts s)
+
+-- ---- right sheets of the old form
+
+-- 14 counts two numbers a point, and 2 is between x and x, y and y
+
+pub record OldRightPath (p : OldPath) : Type 0 where
+  pub segments : isSegments (p .segments) ≡ true
+  pub size : length (placeNumbers (p .points)) ≡ 2 * (3 * p .segments + 1)
+  pub level : isLevel finest (p .level) ≡ true
+  pub points : arePoints (placeNumbers (p .points)) ≡ true
+  pub chained : areBeside reach (placeNumbers (p .points)) (drop 2 (placeNumbers (p .points))) ≡ true
+
+pub record OldRight (s : OldSheet) : Type 0 where
+  pub few : length (s .paths) ≤ 1024
+  pub limits : areLimits (s .upper) (s .lower) ≡ true
+  pub paths : All OldRightPath (s .paths)
+  pub fits : length (oldBytes s) ≤ 32768
