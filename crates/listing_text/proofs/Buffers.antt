@@ -5,5 +5,5 @@ use Prim.Native.Nat.{_*_}
 use Rattle.sheet.specs.Sheet.{mostNumbers}
 use Rattle.listing_text.specs.Pieces.{segmentNumbers, textSize}
 
-pub buffers : (4 * mostNumbers ≡ 65536) × (4 * segmentNumbers ≡ 24588) × (textSize ≡ 65536)
+pub buffers : (4 * mostNumbers ≡ 65536) × (4 * segmentNumbers ≡ 32784) × (textSize ≡ 65536)
 buffers = (refl, refl, refl)

@@ -1,5 +1,5 @@
 -- Every piece of an accepted sheet's listing fits the program's text of 65,536 bytes, so that none is cut: a heading of at most 41 bytes,
--- and at most 2,049 lines of at most 22 bytes, as the numbers of a segment's entries are bounded.
+-- and at most 2,049 lines of at most 29 bytes, as the numbers of a segment's entries are bounded.
 use mathlib.Core.Path.{_≡_, ap}
 use mathlib.Core.List.{List, [], _∷_, _++_, map}
 use Prim.Native.Nat.{ℕ, zero, suc, _+_, _*_, _^_, _≤_, _<_}
@@ -11,7 +11,7 @@ use Rattle.numbers.proofs.Size.{Size, size-of, size-sum, size-by}
 use Rattle.numbers.proofs.Tables.{all-weaker}
 use Rattle.rules.specs.Rules.{finest}
 use Rattle.coordinate.specs.Shown.{pixel}
-use Rattle.operations.specs.Coordinates.{Coordinate, in-x, in-y}
+use Rattle.operations.specs.Coordinates.{Coordinate, in-x, in-y, in-width}
 use Rattle.engine.specs.Drawing.{of}
 use Rattle.distance.specs.Calls.{after}
 use Rattle.distance.proofs.Demand3.{fine}
@@ -60,6 +60,7 @@ record Bounded (most : ℕ) (e : Entry) : Type 0 where
   position : Size (e .position) most
   x : Size (e .x) 16385
   y : Size (e .y) 16385
+  width : Size (e .width) 16385
 
 -- an entry stands at its position, and is the point shown of a drawing of which demand 3 holds
 placed-bounded : (F : ℕ) (p : Path) (e : Entry) → Placed F p e → Bounded (2 ^ F * p .segments) e
@@ -72,12 +73,13 @@ placed-bounded F p e l =
       position = size-by (near .position) (near .inside) (size-of (near .at));
       x = size-by (ap (λ (f : Entry). f .x) (l .shown)) (omega arith) (shown in-x);
       y = size-by (ap (λ (f : Entry). f .y) (l .shown)) (omega arith) (shown in-y);
+      width = size-by (ap (λ (f : Entry). f .width) (l .shown)) (omega arith) (shown in-width);
     }
 
 -- ---- a segment's lines
 
--- 7 bytes and a space, twice 6 bytes and what follows them
-entry-short : (n : ℕ) (e : Entry) → n ≤ 131072 → Bounded 2048 e → length (entryLine (shifted n e)) ≤ 22
+-- 7 bytes and a space, three times 6 bytes and what follows them
+entry-short : (n : ℕ) (e : Entry) → n ≤ 131072 → Bounded 2048 e → length (entryLine (shifted n e)) ≤ 29
 unfolding entryLine followed shifted
 entry-short n e h b =
     let position = size-sum (b .position) (size-of n) in
@@ -87,9 +89,10 @@ entry-short n e h b =
       numeral-few (shifted n e .position) 6 (omega arith) (omega (arith, position .le)),
       numeral-few (e .x) 5 (omega arith) (omega (arith, b .x .le)),
       numeral-few (e .y) 5 (omega arith) (omega (arith, b .y .le)),
+      numeral-few (e .width) 5 (omega arith) (omega (arith, b .width .le)),
     ))
 
-lines-short : (n : ℕ) (es : List Entry) → n ≤ 131072 → All (Bounded 2048) es → length (entryLines (map (shifted n) es)) ≤ 22 * length es
+lines-short : (n : ℕ) (es : List Entry) → n ≤ 131072 → All (Bounded 2048) es → length (entryLines (map (shifted n) es)) ≤ 29 * length es
 unfolding entryLines
 lines-short n [] h a = omega arith
 lines-short n (e ∷ es) h a = rw length-append (omega (arith, entry-short n e h (a .0), lines-short n es h (a .1)))
@@ -107,7 +110,7 @@ module _ (p : Path) (k : ℕ) (e : pathRefusal finest p ≡ 0) (h : k < p .segme
   segment-bounded =
       all-weaker (placed-bounded finest (alone p k)) (entries finest (alone p k)) (listed finest (alone p k) fine (alone-accepted finest p k e h) .placed)
 
-  added-short : length (entryLines (added p k segmentNumbers)) ≤ 22 * 2049
+  added-short : length (entryLines (added p k segmentNumbers)) ≤ 29 * 2049
   unfolding added
   added-short =
       let es = entries finest (alone p k) in

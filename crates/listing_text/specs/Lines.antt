@@ -43,9 +43,9 @@ pathsLine N = named pathsWord N ++ end
 unfoldable pub pathLine : ℕ → Drawn → List ℕ
 pathLine i d = named pathWord i ++ named pointsWord (d .points) ++ named lengthWord (d .length) ++ end
 
--- position, x, y
+-- position, x, y, width
 unfoldable pub entryLine : Entry → List ℕ
-entryLine e = followed (e .position) space ++ followed (e .x) space ++ followed (e .y) end
+entryLine e = followed (e .position) space ++ followed (e .x) space ++ followed (e .y) space ++ followed (e .width) end
 
 unfoldable pub entryLines : List Entry → List ℕ
 entryLines [] = []

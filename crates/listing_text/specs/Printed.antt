@@ -1,5 +1,5 @@
 -- What is printed of an accepted sheet: its listing, piece after piece, and nothing is cut. A piece is put into a text of 65,536 bytes by way
--- of a list of 6,147 numbers, which has room for any segment, and what the text holds up to the count that is answered is written out.
+-- of a list of 8,196 numbers, which has room for any segment, and what the text holds up to the count that is answered is written out.
 use mathlib.Core.Path.{_≡_}
 use mathlib.Core.List.{List, _++_}
 use Prim.Native.Nat.{ℕ}
@@ -24,5 +24,5 @@ pub record Printed (b : List ℕ) : Type 0 where
   pub visits : Visits (sheetNumbers (sheetAt b)) (length (sheetAt b .paths)) firstPlace places
   -- the line before them, and each of them, is written whole; together they are the listing
   pub first : Uncut (pathsLine (length (sheetAt b .paths)))
-  pub each : All (λ q. Uncut (pieceText (sheetNumbers (sheetAt b)) q 6147)) places
-  pub text : pathsLine (length (sheetAt b .paths)) ++ piecesText (sheetNumbers (sheetAt b)) 6147 places ≡ listing b
+  pub each : All (λ q. Uncut (pieceText (sheetNumbers (sheetAt b)) q 8196)) places
+  pub text : pathsLine (length (sheetAt b .paths)) ++ piecesText (sheetNumbers (sheetAt b)) 8196 places ≡ listing b
