@@ -90,7 +90,7 @@ returns-3 c =
     let cut = lt-leb _ _ (rw (count (c .before)) at (c .if3 .taken)) in
     sym (refuses-cut 15 _ _ _ (begins (e .before .before .before .before)) (head e) cut)
 
--- a path of at most 64 segments has at most 386 numbers
+-- a path of at most 64 segments has at most 579 numbers
 few : (n : ℕ) → isSegments n ≡ true → pointNumbers n ≤ pointNumbers mostSegments
 unfolding isSegments
 few n e = omega (arith, leb-true n mostSegments (and-true (leb 1 n) (leb n mostSegments) e .1))
