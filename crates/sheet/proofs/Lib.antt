@@ -14,3 +14,4 @@ pub mod Demand1
 pub mod Refusals
 pub mod Example
 pub mod OldForm
+pub mod Longest
