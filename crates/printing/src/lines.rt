@@ -72,9 +72,11 @@ fn put_entry(e: Entry, k: u32, text: &mut [u8], at: usize) -> usize
     let position = position_of(e, k);
     let x = e.x as i64;
     let y = e.y as i64;
+    let width = e.width as i64;
     let mut to = put_followed(position, b" ", text, at);
     to = put_followed(x, b" ", text, to);
-    put_followed(y, b"\n", text, to)
+    to = put_followed(y, b" ", text, to);
+    put_followed(width, b"\n", text, to)
 }
 
 fn position_of(e: Entry, k: u32) -> i64
