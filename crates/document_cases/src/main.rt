@@ -1,9 +1,10 @@
 // Runs the worked cases of document 01 through the public functions of the drawer and of the engine, and prints the numbers that the
-// document gives.
+// document gives; and a case of order 8, in which the width alone moves.
 use coordinate::Control;
 use coordinate::Registers;
 use engine::Drawing;
 use engine::Moved;
+use entries::Entry;
 use entries::Found;
 use path::Drawn;
 
@@ -26,9 +27,10 @@ fn main() {
     let m = start(curve(0, 0, 0, 8), 1).drawing.step();
     position(b"M", m.drawing.q);
     verdict(b"M", m.drawing.double().refusal);
+    lane(b"order 8", curve(0, 682, 1364, 2046));
 }
 
-// ---- the curves: x as given, y 0 throughout
+// ---- the curves: x as given, y and the width 0 throughout
 
 fn curve(p0: i32, p1: i32, p2: i32, p3: i32) -> Control {
     Control {
@@ -48,7 +50,7 @@ fn kink(p: i32) -> Control {
 }
 
 fn start(x: Control, level: u32) -> Moved {
-    Drawing::start(x, flat(0), level)
+    Drawing::start(x, flat(0), flat(0), level)
 }
 
 // Cases C to F.
@@ -75,18 +77,43 @@ fn steep(name: &[u8], p: i32, given: u32) {
 
 // Cases A, B, K and L: a path of one segment, drawn; its positions and its x.
 fn listing(name: &[u8], x: Control, level: u32) -> Drawn {
-    let points = [x.p0, 0, x.p1, 0, x.p2, 0, x.p3, 0];
     let mut list = [0i32; 64];
-    let drawn = drawer::draw(&points, 1, level, 65536, 32768, &mut list);
-    column(name, b" positions", &list, drawn.points, false);
-    column(name, b" x", &list, drawn.points, true);
+    let drawn = draw(x, flat(0), level, &mut list);
+    column(name, b" positions", &list, drawn.points, 0);
+    column(name, b" x", &list, drawn.points, 1);
     drawn
+}
+
+// A width alone: its positions and its widths.
+fn lane(name: &[u8], width: Control) {
+    let mut list = [0i32; 64];
+    let drawn = draw(flat(0), width, 0, &mut list);
+    column(name, b" positions", &list, drawn.points, 0);
+    column(name, b" width", &list, drawn.points, 3);
+}
+
+fn draw(x: Control, width: Control, level: u32, list: &mut [i32]) -> Drawn {
+    let points = [
+        x.p0,
+        0,
+        width.p0,
+        x.p1,
+        0,
+        width.p1,
+        x.p2,
+        0,
+        width.p2,
+        x.p3,
+        0,
+        width.p3,
+    ];
+    drawer::draw(&points, 1, level, 65536, 32768, list)
 }
 
 // ---- lines
 
-// The positions of a list's entries, or their x.
-fn column(name: &[u8], label: &[u8], list: &[i32], points: u32, of_x: bool) {
+// One number of each of a list's entries: 0 is the position, 1 x, 2 y, 3 the width.
+fn column(name: &[u8], label: &[u8], list: &[i32], points: u32, number: u32) {
     io::write_all(OUT, name);
     io::write_all(OUT, label);
     let mut i: u32 = 0;
@@ -94,10 +121,19 @@ fn column(name: &[u8], label: &[u8], list: &[i32], points: u32, of_x: bool) {
         let Found::Here(e) = entries::entry_at(list, i as usize) else {
             break;
         };
-        signed(b" ", if of_x { e.x } else { e.position });
+        signed(b" ", number_of(e, number));
         i += 1;
     }
     io::write_all(OUT, b"\n");
+}
+
+fn number_of(e: Entry, number: u32) -> i32 {
+    match number {
+        0 => e.position,
+        1 => e.x,
+        2 => e.y,
+        _ => e.width,
+    }
 }
 
 fn totals(name: &[u8], drawn: Drawn) {

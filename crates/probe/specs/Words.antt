@@ -20,7 +20,7 @@ signedAt words at = getD words at (pos 0)
 abbrev pub unsignedAt : List ℤ → ℕ → ℕ
 unsignedAt words at = ofZ w32 (signedAt words at)
 
--- x0 y0 x1 y1 x2 y2 x3 y3, x from place 0 on and y from 1
+-- point by point: x from place 0 on, y from 1, the width from 2
 abbrev pub controlAt : List ℤ → ℕ → Control
 controlAt words at =
     record {
@@ -39,7 +39,7 @@ registersAt words at =
       d = signedAt words (at + 3);
     }
 
--- level q xa xb xc xd ya yb yc yd
+-- level q, then a b c d of x, of y, of the width
 abbrev pub drawingIn : List ℤ → Drawing
 drawingIn words =
     record {
@@ -47,4 +47,5 @@ drawingIn words =
       q = unsignedAt words 1;
       x = registersAt words 2;
       y = registersAt words 6;
+      width = registersAt words 10;
     }

@@ -56,8 +56,9 @@ fn answer_start(words: &[i32], text: &mut [u8]) -> bool {
     }
     let x = control_of(words, 0);
     let y = control_of(words, 1);
+    let width = control_of(words, 2);
     let level = unsigned_at(words, CONTROLS);
-    put_moved(text, Drawing::start(x, y, level));
+    put_moved(text, Drawing::start(x, y, width, level));
     true
 }
 

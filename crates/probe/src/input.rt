@@ -43,7 +43,7 @@ pub(crate) fn unsigned_at(words: &[i32], at: usize) -> u32
     words::bits(z)
 }
 
-// One coordinate of the control points x0 y0 x1 y1 x2 y2 x3 y3, x at 0 and y at 1.
+// One coordinate of the control points, which come point by point: x at 0, y at 1, the width at 2.
 pub(crate) fn control_of(words: &[i32], at: usize) -> Control
     requires { ⌜ at + degree * coordinates < length (now words) ⌝ }
     ensures { λ r. ⌜ r ≡ controlAt (now (words .entry)) at ⌝ }
@@ -56,9 +56,9 @@ pub(crate) fn control_of(words: &[i32], at: usize) -> Control
     }
 }
 
-// level q xa xb xc xd ya yb yc yd.
+// level q, then a b c d of x, of y, of the width.
 pub(crate) fn drawing_of(words: &[i32]) -> Drawing
-    requires { ⌜ 10 ≤ length (now words) ⌝ }
+    requires { ⌜ 14 ≤ length (now words) ⌝ }
     ensures { λ r. ⌜ r ≡ drawingIn (now (words .entry)) ⌝ }
 {
     Drawing {
@@ -66,6 +66,7 @@ pub(crate) fn drawing_of(words: &[i32]) -> Drawing
         q: unsigned_at(words, 1),
         x: registers_of(words, 2),
         y: registers_of(words, 6),
+        width: registers_of(words, 10),
     }
 }
 

@@ -25,6 +25,7 @@ pub(crate) fn put_moved(text: &mut [u8], moved: Moved) {
     at = put_unsigned(text, at, d.q);
     at = put_registers(text, at, d.x);
     at = put_registers(text, at, d.y);
+    at = put_registers(text, at, d.width);
     end_line(text, at);
 }
 
@@ -54,6 +55,7 @@ fn operation_of(next: Next) -> u32 {
 pub(crate) fn put_shown(text: &mut [u8], shown: Shown) {
     let mut at = text::put_number(text, 0, wide(shown.x));
     at = put_signed(text, at, shown.y);
+    at = put_signed(text, at, shown.width);
     end_line(text, at);
 }
 

@@ -5,10 +5,10 @@ use Rattle.document_cases.proofs.column.Statement.{statement}
 use Rattle.document_cases.proofs.column.Tie as tie
 
 abbrev Inv-loop : tie.InvT-loop
-Inv-loop name label list points of_x i₀ t8 t9 i = Unit
+Inv-loop name label list points number i₀ t8 t9 i = Unit
 
 abbrev μ-loop : tie.MeasureT-loop
-μ-loop name label list points of_x i₀ t8 t9 i = points - i
+μ-loop name label list points number i₀ t8 t9 i = points - i
 
 write-all-requires : tie.Need-write-all-requires Inv-loop μ-loop
 write-all-requires c κs = search needs
@@ -33,6 +33,9 @@ enum-told c = search needs
 
 slice-aggregate-signed : tie.Need-slice-aggregate-signed Inv-loop μ-loop
 slice-aggregate-signed c = search needs
+
+number-of-requires : tie.Need-number-of-requires Inv-loop μ-loop
+number-of-requires c κs = search needs
 
 signed-requires : tie.Need-signed-requires Inv-loop μ-loop
 signed-requires c κs = search needs
@@ -69,6 +72,7 @@ column-spec =
     enum-known-e
     enum-told
     slice-aggregate-signed
+    number-of-requires
     signed-requires
     add-i
     loop-less

@@ -15,13 +15,17 @@ registers-of-requires c κs = search needs
 registers-of-requires-2 : tie.Need-registers-of-requires-2
 registers-of-requires-2 c κs = search needs
 
+registers-of-requires-3 : tie.Need-registers-of-requires-3
+registers-of-requires-3 c κs = search needs
+
 returns : tie.Need-returns
 returns c =
     λ i. record {
-      level = c .before .before .before .unsigned-at .ensures i;
-      q = c .before .before .unsigned-at2 .ensures i;
-      x = c .before .registers-of .ensures i;
-      y = c .registers-of2 .ensures i;
+      level = c .before .before .before .before .unsigned-at .ensures i;
+      q = c .before .before .before .unsigned-at2 .ensures i;
+      x = c .before .before .registers-of .ensures i;
+      y = c .before .registers-of2 .ensures i;
+      width = c .registers-of3 .ensures i;
     }
 
 pub drawing-of-spec : {M : Type 1} → statement M
@@ -32,4 +36,5 @@ drawing-of-spec =
     unsigned-at-requires-2
     registers-of-requires
     registers-of-requires-2
+    registers-of-requires-3
     returns)
