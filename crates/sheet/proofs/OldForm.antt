@@ -19,9 +19,11 @@ use Rattle.rules.specs.Rules.{
   headRefusal,
   arePoints,
   areBeside,
+  areChained,
+  pointsRefusal,
 }
 use Rattle.rules.proofs.Refusals.{first-kept}
-use Rattle.sheet.specs.Bytes.{valueBytes}
+use Rattle.sheet.specs.Bytes.{valueBytes, valuesAt}
 use Rattle.sheet.specs.Sheet.{Target, Sheet, mostBytes, recordBytes, records, offsets, sheetBytes, Right}
 use Rattle.sheet.specs.Records.{recordAt, recordEnd}
 use Rattle.sheet.specs.PathRules.{pathRules}
@@ -62,8 +64,8 @@ records-refused b (q ∷ ps) k p h s r some e =
 pub old-form-refused : (s : OldSheet) → OldRight s → 0 < length (s .paths) → sheetRefusal (oldBytes s) ≡ 0 → ⊥
 unfolding oldParts
 old-form-refused s r some e =
-    let count = header-back (oldParts s) (rw (length-map (s .paths) oldTarget) (r .few)) (r .limits) .0 in
-    records-refused (oldBytes s) (s .paths) 0 _ (r .fits) (sheet-stands (oldParts s)) (r .paths) some (rw count at (headed (oldBytes s) e .records))
+    let count = header-back (oldParts s) (omega (arith, length-map (s .paths) oldTarget, r .few)) (r .limits) .0 in
+    records-refused (oldBytes s) (s .paths) 0 _ (omega (arith, r .fits)) (sheet-stands (oldParts s)) (r .paths) some (rw count at (headed (oldBytes s) e .records))
 
 -- into a list of any room
 pub old-form-not-read : (s : OldSheet) (room : ℕ) → OldRight s → 0 < length (s .paths) → readAnswer (oldBytes s) room .refusal ≡ 0 → ⊥
@@ -89,9 +91,9 @@ unfolding oldParts oldTarget
 one-path-refused-15 upper lower p r =
     let s = oldParts (record { upper = upper; lower = lower; paths = p ∷ [] }) in
     let b = sheetBytes s in
-    let header = header-back s (r .few) (r .limits) in
+    let header = header-back s (omega arith) (r .limits) in
     let q = r .paths .0 in
-    let cut = record-cut b (oldTarget p) 0 16 (r .fits) (sheet-stands s) (q .segments) (q .level) (omega (arith, q .size)) in
+    let cut = record-cut b (oldTarget p) 0 16 (omega (arith, r .fits)) (sheet-stands s) (q .segments) (q .level) (omega (arith, q .size)) in
     let size : 16 ≤ length b = omega (arith, length-bytes s) in
     sheet-refuses-by-records b (omega arith) (r .fits) (rw (header .0) (r .few)) (rw (header .0) size) (rw (header .1, header .2) (r .limits))
     ∙ rw (header .0) (records-stop b 1 0 16 (omega arith) (λ e. omega (arith, cut, e)) ∙ cut)
@@ -132,7 +134,8 @@ oldPathA = record { upper = 65536; lower = 32768; paths = pathA ∷ [] }
 
 pub old-document-sheet : OldRight oldPathA × (oldBytes oldPathA ≡ oldDocumentBytes) × (sheetRefusal oldDocumentBytes ≡ 15)
 unfolding oldParts oldTarget placeNumbers sheetBytes offsets records recordBytes valueBytes sheetRefusal recordsRefusal recordRefusal bodyRefusal
-    isOffset pathRules headRefusal areLimits isSegments isLevel arePoints isCoordinate areBeside areNeighbours recordAt
+    isOffset pathRules headRefusal pointsRefusal areLimits isSegments isLevel arePoints isCoordinate areChained areBeside areNeighbours recordAt
+    valuesAt
 old-document-sheet =
     let path : OldRightPath pathA = record { segments = refl; size = refl; level = refl; points = refl; chained = refl } in
     (record { few = omega arith; limits = refl; paths = (path, tt); fits = omega arith }, refl, refl)

@@ -11,7 +11,7 @@ use Rattle.rules.specs.Rules.{finest, isLevel, areLimits, isSegments}
 use Rattle.rules.proofs.Refusals.{first-on}
 use Rattle.rules.proofs.Laws.{limits-hold, Sized, size-holds}
 use Rattle.sheet.specs.Bytes.{le16, le32, valueBytes, u16At, u32At, valuesAt}
-use Rattle.sheet.specs.Sheet.{Target, Sheet, headSize, recordBytes, records, offsets, sheetBytes, mostBytes, RightPath, Right}
+use Rattle.sheet.specs.Sheet.{Target, Sheet, headSize, recordBytes, records, offsets, sheetBytes, mostPaths, mostBytes, RightPath, Right}
 use Rattle.sheet.specs.Records.{recordAt, recordEnd, recordsAt, sheetAt}
 use Rattle.sheet.specs.Reading.{isOffset, bodyRefusal, recordRefusal, recordsRefusal, sheetRefusal}
 use Rattle.sheet.proofs.Bytes.{u16-at, u32-at, u16-back, u32-back, bits-small, values-back}
@@ -132,7 +132,7 @@ sheet-stands s =
       start = omega (arith, length-offsets (headSize N) (s .paths));
     }
 
-pub header-back : (s : Sheet) → length (s .paths) ≤ 1024 → areLimits (s .upper) (s .lower) ≡ true
+pub header-back : (s : Sheet) → length (s .paths) ≤ mostPaths → areLimits (s .upper) (s .lower) ≡ true
     → (u32At (sheetBytes s) 0 ≡ length (s .paths)) × (u32At (sheetBytes s) 4 ≡ s .upper) × (u32At (sheetBytes s) 8 ≡ s .lower)
 unfolding sheetBytes
 header-back s few limits =
