@@ -6,8 +6,9 @@ use mathlib.Core.List.{List, [], _∷_, map}
 use Prim.Native.Nat.{ℕ, _+_, _≤_, _<_}
 use native.Mathlib.Omega.{arith}
 use lib.IntN.{pos}
-use lib.ListN.{length, length-map}
+use lib.ListN.{length}
 use Rattle.numbers.specs.Tables.{All}
+use Rattle.numbers.proofs.Tables.{all-weaker}
 use Rattle.rules.specs.Rules.{
   finest,
   isCoordinate,
@@ -29,11 +30,11 @@ use Rattle.sheet.specs.Records.{recordAt, recordEnd}
 use Rattle.sheet.specs.PathRules.{pathRules}
 use Rattle.sheet.specs.Reading.{isOffset, bodyRefusal, recordRefusal, recordsRefusal, sheetRefusal, readRefusal}
 use Rattle.sheet.specs.Answer.{readAnswer}
-use Rattle.sheet.specs.OldForm.{Place, OldPath, OldSheet, placeNumbers, oldTarget, oldParts, oldBytes, OldRightPath, OldRight}
+use Rattle.sheet.specs.OldForm.{Place, OldPath, OldSheet, placeNumbers, oldTarget, oldParts, oldBytes, OldSize, OldRightPath, OldRight}
 use Rattle.sheet.proofs.Sheets.{length-record, length-bytes}
 use Rattle.sheet.proofs.Room.{room-accepted}
 use Rattle.sheet.proofs.Reading.{records-stop, records-done, record-held, headed}
-use Rattle.sheet.proofs.ReadsBack.{Stands, stands-end, next-stands, offset-back, segments-back, level-back, sheet-stands, header-back, reads-back}
+use Rattle.sheet.proofs.ReadsBack.{Stands, stands-end, next-stands, offset-back, segments-back, level-back, sheet-stands, count-back, limits-back, reads-back}
 use Rattle.sheet.proofs.Refusals.{sheet-refuses-by-records, record-refuses-by-body, record-order}
 
 -- records that are read without a refusal from a place on stand there: the next offset says so, or the sheet's end
@@ -54,18 +55,23 @@ size-found b q ps k p h s segments e =
     omega (arith, end, segments-back b q ps k p s segments, length-record q)
 
 -- which in the old form it has not
-records-refused : (b : List ℕ) (ps : List OldPath) (k p : ℕ) → length b ≤ mostBytes → Stands b (map oldTarget ps) k p → All OldRightPath ps
+records-refused : (b : List ℕ) (ps : List OldPath) (k p : ℕ) → length b ≤ mostBytes → Stands b (map oldTarget ps) k p → All OldSize ps
     → 0 < length ps → recordsRefusal b (length (map oldTarget ps)) k p ≡ 0 → ⊥
 unfolding oldTarget
 records-refused b [] k p h s r some e = omega arith
 records-refused b (q ∷ ps) k p h s r some e =
-    omega (arith, size-found b (oldTarget q) (map oldTarget ps) k p h s (r .0 .segments) e, r .0 .size)
+    omega (arith, size-found b (oldTarget q) (map oldTarget ps) k p h s (r .0 .segments) e, r .0 .numbers)
+
+-- whatever its limits, its levels and its points are
+pub old-size-refused : (s : OldSheet) → All OldSize (s .paths) → 0 < length (s .paths) → sheetRefusal (oldBytes s) ≡ 0 → ⊥
+unfolding oldParts
+old-size-refused s r some e =
+    let h = headed (oldBytes s) e in
+    let count = count-back (oldParts s) (omega (arith, length-bytes (oldParts s), h .most)) in
+    records-refused (oldBytes s) (s .paths) 0 _ (h .most) (sheet-stands (oldParts s)) r some (rw count at (h .records))
 
 pub old-form-refused : (s : OldSheet) → OldRight s → 0 < length (s .paths) → sheetRefusal (oldBytes s) ≡ 0 → ⊥
-unfolding oldParts
-old-form-refused s r some e =
-    let count = header-back (oldParts s) (omega (arith, length-map (s .paths) oldTarget, r .few)) (r .limits) .0 in
-    records-refused (oldBytes s) (s .paths) 0 _ (omega (arith, r .fits)) (sheet-stands (oldParts s)) (r .paths) some (rw count at (headed (oldBytes s) e .records))
+old-form-refused s r = old-size-refused s (all-weaker (λ p r. r .size) (s .paths) (r .paths))
 
 -- into a list of any room
 pub old-form-not-read : (s : OldSheet) (room : ℕ) → OldRight s → 0 < length (s .paths) → readAnswer (oldBytes s) room .refusal ≡ 0 → ⊥
@@ -91,12 +97,13 @@ unfolding oldParts oldTarget
 one-path-refused-15 upper lower p r =
     let s = oldParts (record { upper = upper; lower = lower; paths = p ∷ [] }) in
     let b = sheetBytes s in
-    let header = header-back s (omega arith) (r .limits) in
+    let count = count-back s (omega arith) in
+    let limits = limits-back s (r .limits) in
     let q = r .paths .0 in
-    let cut = record-cut b (oldTarget p) 0 16 (omega (arith, r .fits)) (sheet-stands s) (q .segments) (q .level) (omega (arith, q .size)) in
+    let cut = record-cut b (oldTarget p) 0 16 (omega (arith, r .fits)) (sheet-stands s) (q .size .segments) (q .level) (omega (arith, q .size .numbers)) in
     let size : 16 ≤ length b = omega (arith, length-bytes s) in
-    sheet-refuses-by-records b (omega arith) (r .fits) (rw (header .0) (r .few)) (rw (header .0) size) (rw (header .1, header .2) (r .limits))
-    ∙ rw (header .0) (records-stop b 1 0 16 (omega arith) (λ e. omega (arith, cut, e)) ∙ cut)
+    sheet-refuses-by-records b (omega arith) (r .fits) (rw count (r .few)) (rw count size) (rw (limits .0, limits .1) (r .limits))
+    ∙ rw count (records-stop b 1 0 16 (omega arith) (λ e. omega (arith, cut, e)) ∙ cut)
 
 -- ---- no path: both forms are the same 12 bytes, and accepted
 
@@ -137,5 +144,6 @@ unfolding oldParts oldTarget placeNumbers sheetBytes offsets records recordBytes
     isOffset pathRules headRefusal pointsRefusal areLimits isSegments isLevel arePoints isCoordinate areChained areBeside areNeighbours recordAt
     valuesAt
 old-document-sheet =
-    let path : OldRightPath pathA = record { segments = refl; size = refl; level = refl; points = refl; chained = refl } in
+    let size : OldSize pathA = record { segments = refl; numbers = refl } in
+    let path : OldRightPath pathA = record { size = size; level = refl; points = refl; chained = refl } in
     (record { few = omega arith; limits = refl; paths = (path, tt); fits = omega arith }, refl, refl)

@@ -2,7 +2,7 @@
 use mathlib.Core.Path.{_≡_, refl, sym, ap, ap₂, _∙_}
 use mathlib.Core.Bool.{true}
 use mathlib.Core.List.{List, [], _∷_, _++_, append-assoc}
-use Prim.Native.Nat.{ℕ, _+_, _≤_}
+use Prim.Native.Nat.{ℕ, _+_, _≤_, _<_}
 use native.Mathlib.Omega.{arith}
 use borrow.Author.Tests.{le-leb, eq-eqb}
 use lib.ListN.{length, length-append}
@@ -11,7 +11,7 @@ use Rattle.rules.specs.Rules.{finest, isLevel, areLimits, isSegments}
 use Rattle.rules.proofs.Refusals.{first-on}
 use Rattle.rules.proofs.Laws.{limits-hold, Sized, size-holds}
 use Rattle.sheet.specs.Bytes.{le16, le32, valueBytes, u16At, u32At, valuesAt}
-use Rattle.sheet.specs.Sheet.{Target, Sheet, headSize, recordBytes, records, offsets, sheetBytes, mostPaths, mostBytes, RightPath, Right}
+use Rattle.sheet.specs.Sheet.{Target, Sheet, headSize, recordBytes, records, offsets, sheetBytes, mostBytes, RightPath, Right}
 use Rattle.sheet.specs.Records.{recordAt, recordEnd, recordsAt, sheetAt}
 use Rattle.sheet.specs.Reading.{isOffset, bodyRefusal, recordRefusal, recordsRefusal, sheetRefusal}
 use Rattle.sheet.proofs.Bytes.{u16-at, u32-at, u16-back, u32-back, bits-small, values-back}
@@ -132,32 +132,36 @@ sheet-stands s =
       start = omega (arith, length-offsets (headSize N) (s .paths));
     }
 
-pub header-back : (s : Sheet) → length (s .paths) ≤ mostPaths → areLimits (s .upper) (s .lower) ≡ true
-    → (u32At (sheetBytes s) 0 ≡ length (s .paths)) × (u32At (sheetBytes s) 4 ≡ s .upper) × (u32At (sheetBytes s) 8 ≡ s .lower)
+pub count-back : (s : Sheet) → length (s .paths) < 4294967296 → u32At (sheetBytes s) 0 ≡ length (s .paths)
 unfolding sheetBytes
-header-back s few limits =
+count-back s h =
+    let N = length (s .paths) in
+    u32-back N (le32 (s .upper) ++ (le32 (s .lower) ++ (offsets (headSize N) (s .paths) ++ records (s .paths)))) h
+
+pub limits-back : (s : Sheet) → areLimits (s .upper) (s .lower) ≡ true → (u32At (sheetBytes s) 4 ≡ s .upper) × (u32At (sheetBytes s) 8 ≡ s .lower)
+unfolding sheetBytes
+limits-back s h =
     let N = length (s .paths) in
     let rest = offsets (headSize N) (s .paths) ++ records (s .paths) in
     let lower = le32 (s .lower) ++ rest in
-    let upper = le32 (s .upper) ++ lower in
-    let bounds = limits-hold (s .upper) (s .lower) limits in (
-      u32-back N upper (omega arith),
-      u32-at _ (le32 N) upper 4 refl refl ∙ u32-back (s .upper) lower (omega arith),
+    let limits = limits-hold (s .upper) (s .lower) h in (
+      u32-at _ (le32 N) (le32 (s .upper) ++ lower) 4 refl refl ∙ u32-back (s .upper) lower (omega arith),
       u32-at _ (le32 N ++ le32 (s .upper)) lower 8 refl refl ∙ u32-back (s .lower) rest (omega arith),
     )
 
 pub reads-back : (s : Sheet) → Right s → (sheetAt (sheetBytes s) ≡ s) × (sheetRefusal (sheetBytes s) ≡ 0)
 unfolding sheetAt
 reads-back s r =
-    let header = header-back s (r .few) (r .limits) in
+    let count = count-back s (omega (arith, r .few)) in
+    let limits = limits-back s (r .limits) in
     let records = records-back (sheetBytes s) (s .paths) 0 (headSize (length (s .paths))) (r .fits) (sheet-stands s) (r .paths) in
     let accepted : Headed (sheetBytes s) =
     record {
       least = omega (arith, length-bytes s);
       most = r .fits;
-      few = rw (header .0) (r .few);
-      table = rw (header .0) (omega (arith, length-bytes s));
-      limits = rw (header .1, header .2) (r .limits);
-      records = rw (header .0) (records .1);
+      few = rw count (r .few);
+      table = rw count (omega (arith, length-bytes s));
+      limits = rw (limits .0, limits .1) (r .limits);
+      records = rw count (records .1);
     } in
-    (rw (header .0, header .1, header .2, records .0), headed-accepted (sheetBytes s) accepted)
+    (rw (count, limits .0, limits .1, records .0), headed-accepted (sheetBytes s) accepted)

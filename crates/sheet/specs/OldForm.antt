@@ -45,11 +45,15 @@ oldBytes s = sheetBytes (oldParts s)
 
 -- ---- right sheets of the old form
 
--- 14 counts two numbers a point, and 2 is between x and x, y and y
+-- 14: 1 to 64 segments, and 3S + 1 points of two numbers
+pub record OldSize (p : OldPath) : Type 0 where
+  pub segments : isSegments (p .segments) ≡ true
+  pub numbers : length (placeNumbers (p .points)) ≡ 2 * (3 * p .segments + 1)
+
+-- 2 is between x and x, y and y
 
 pub record OldRightPath (p : OldPath) : Type 0 where
-  pub segments : isSegments (p .segments) ≡ true
-  pub size : length (placeNumbers (p .points)) ≡ 2 * (3 * p .segments + 1)
+  pub size : OldSize p
   pub level : isLevel finest (p .level) ≡ true
   pub points : arePoints (placeNumbers (p .points)) ≡ true
   pub chained : areBeside reach (placeNumbers (p .points)) (drop 2 (placeNumbers (p .points))) ≡ true
