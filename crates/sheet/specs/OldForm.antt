@@ -1,5 +1,5 @@
--- The old form of a sheet, as document 01 has it: a point is x and y, without a width. It stands here for what is proved of it: a sheet of the
--- old form with any path in it is refused.
+-- The old form of a sheet, as document 01 has it: a point is x and y, without a width. It is neither read nor written any more; it stands here
+-- for what is proved of it in proofs/OldForm, that a sheet of the old form with any path in it is refused.
 use mathlib.Core.Path.{_≡_}
 use mathlib.Core.Bool.{true}
 use mathlib.Core.List.{List, [], _∷_, map}
@@ -27,19 +27,19 @@ pub record OldSheet : Type 0 where
 
 -- ---- its bytes
 
--- x0, y0, x1, y1, ..
+-- x and y of each point: x0, y0, x1, y1, ..
 unfoldable pub placeNumbers : List Place → List ℤ
 placeNumbers [] = []
 placeNumbers (p ∷ ps) = p .x ∷ p .y ∷ placeNumbers ps
 
--- segments, start level, and x and y of each point
+-- the path and the sheet with their points as numbers
 unfoldable pub oldTarget : OldPath → Target
 oldTarget p = record { segments = p .segments; level = p .level; points = placeNumbers (p .points) }
 
 unfoldable pub oldParts : OldSheet → Sheet
 oldParts s = record { upper = s .upper; lower = s .lower; paths = map oldTarget (s .paths) }
 
--- header, offsets and records are made alike in both forms: they do not know how many numbers a point has
+-- header, offsets and records are made from these as in the new form: they do not know how many numbers a point has
 abbrev pub oldBytes : OldSheet → List ℕ
 oldBytes s = sheetBytes (oldParts s)
 
@@ -50,8 +50,7 @@ pub record OldSize (p : OldPath) : Type 0 where
   pub segments : isSegments (p .segments) ≡ true
   pub numbers : length (placeNumbers (p .points)) ≡ 2 * (3 * p .segments + 1)
 
--- 2 is between x and x, y and y
-
+-- every rule of a path but for the limits: 14, 3, 1 over all points, and 2 between x and x, y and y
 pub record OldRightPath (p : OldPath) : Type 0 where
   pub size : OldSize p
   pub level : isLevel finest (p .level) ≡ true
