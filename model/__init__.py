@@ -1,8 +1,9 @@
 """A model of the library, to compare its answers with.
 
-Written from document 01 alone: it knows nothing of the library's code, and
-it follows the document's words in their order. Numbers are Python's whole
-numbers, which have no end, so nothing here can wrap round or be cut.
+Written from documents 01 and 02 (order 8) alone: it knows nothing of the
+library's code, and it follows the documents' words in their order. Numbers
+are Python's whole numbers, which have no end, so nothing here can wrap round
+or be cut.
 
     constants the document's numbers, each named once
     points    points, and the numbers that they are written as

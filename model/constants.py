@@ -1,11 +1,11 @@
-"""The document's numbers, each named once."""
+"""The documents' numbers, each named once."""
 
 # Points, and entries of a list
 
-COORDINATES = "x", "y"              # of a point, in their order
+COORDINATES = "x", "y", "width"     # of a point, in their order
 POINT_NUMBERS = len(COORDINATES)
 ENTRY_NUMBERS = 1 + POINT_NUMBERS   # the position, and then the point
-LOWEST, HIGHEST = -16_384, 16_383   # a coordinate
+LOWEST, HIGHEST = -16_384, 16_383   # a coordinate, the width too
 FARTHEST = 682                      # between neighbours, in each coordinate
 
 # Drawings

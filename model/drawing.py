@@ -1,8 +1,8 @@
 """The model's drawing: the exact curve, its registers and their operations.
 
 A drawing is a level, a position q, and the registers (a, b, c, d) of each
-coordinate. Each operation hands a drawing back; a refused one hands back the
-drawing that it was given.
+coordinate: x, y and the width. Each operation hands a drawing back; a refused
+one hands back the drawing that it was given.
 """
 from collections import namedtuple
 from fractions import Fraction
@@ -164,7 +164,7 @@ def shown(drawing):
     return Point._make(map(shown_coordinate, registers_of(drawing)))
 
 
-# Choosing the next operation: 4, 10 by level and q, 5
+# Choosing the next operation: 4, 10 by level and q, 5. The width takes no part
 
 def increment(level, registers):
     c = registers[2]

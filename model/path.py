@@ -37,6 +37,7 @@ def path_entries(points, level, upper, lower):
 
 
 def length(entries):
+    """Of the moves in x and y; the width takes no part."""
     total = 0
     for here, there in zip(entries, entries[1:]):
         moves = abs(there.x - here.x), abs(there.y - here.y)

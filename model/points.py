@@ -1,4 +1,4 @@
-"""Points, and the numbers that they are written as: x, y, x, y and so on."""
+"""Points, and the numbers that they are written as: x, y, width and so on."""
 from collections import namedtuple
 
 from model.constants import COORDINATES, DEGREE, POINT_NUMBERS

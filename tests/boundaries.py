@@ -1,4 +1,4 @@
-"""Requests at the values where document 01's rules draw their limits.
+"""Requests at the values where the documents' rules draw their limits.
 
 CASES has (what is tried, name of the request, argument words, how the answer
 line begins), reckoned by hand. They are the rows of the two tables in
@@ -13,10 +13,16 @@ from probe_protocol import line
 HALVE, DOUBLE, STEP = 0, 1, 2
 
 
-def chosen(what, operation, level, q, b, c, c_of_y, limits=LIMITS):
-    """x has the registers b and c, y has c, the others are 0."""
-    words = drawing(level, q, 0, b, c, 0, 0, 0, c_of_y, 0)
+def chosen(what, operation, level, q, b, c, c_of_y, limits=LIMITS,
+           of_width=(0, 0)):
+    """x has the registers b and c, y has c, the width b and c."""
+    words = drawing(level, q, 0, b, c, 0, 0, 0, c_of_y, 0, 0, *of_width)
     return what, "next", [*words, *limits], line([0, operation])
+
+
+def chosen_past_width(what, operation, c, *of_width):
+    """At level 1, x has the register c, y is at rest, the width moves."""
+    return chosen(what, operation, 1, 0, 0, c, 0, LIMITS, of_width)
 
 
 def refused_choice(what, refusal, level, q, limits=LIMITS):
@@ -27,13 +33,20 @@ def operated(what, name, refusal, level, q, *registers):
     return what, name, drawing(level, q, *registers), line([refusal, ""])
 
 
-def started(what, refusal, ys, level):
-    points = flat([0, y] for y in ys)
+def operated_width(what, name, refusal, level, *registers):
+    """The width has these registers, x and y are at rest."""
+    return operated(what, name, refusal, level, 0, *AT_REST, *AT_REST,
+                    *registers)
+
+
+def started(what, refusal, ys, level, widths=(0, 0, 0, 0)):
+    points = flat([0, y, width] for y, width in zip(ys, widths))
     return what, "start", [*points, level], line([refusal, ""])
 
 
 AT_REST = [0, 0, 0, 0]
 OUTSIDE = [MOST, LEAST, 0, 0]
+HUGE = 134_219_776      # its increment is past upper at every level
 
 CASES = [
     chosen("1: equal to upper", STEP, 1, 0, 0, 131_073, 0),
@@ -59,6 +72,12 @@ CASES = [
            [32_768, 32_768]),
     chosen("2: doubled y larger", STEP, 1, 0, 0, 0, 32_769,
            [32_768, 32_768]),
+    chosen_past_width("the width in 1", STEP, 65_536, 0, HUGE),
+    chosen_past_width("the width in 1, below 0", STEP, 65_536, 0, -HUGE),
+    chosen_past_width("1 beside a width", HALVE, 131_074, 0, HUGE),
+    chosen_past_width("the width in 2", DOUBLE, 0, 0, HUGE),
+    chosen_past_width("the width equal to lower", DOUBLE, 0, 0, 65_536),
+    chosen_past_width("the width in 2, doubled", DOUBLE, 0, MOST, 0),
     operated("10: level 12", "step", 10, 12, 0),
     operated("10 before 6", "halve", 10, 12, 0),
     operated("10 before 5", "step", 10, 12, 2_048),
@@ -79,12 +98,34 @@ CASES = [
     operated("the largest register", "step", 0, 0, 0,
              *AT_REST, 0, 0, 1, MOST - 1),
     operated("10 above it", "step", 10, 0, 0, *AT_REST, 0, 0, 1, MOST),
+    operated_width("10 by the width", "halve", 10, 0, *OUTSIDE),
+    operated_width("6 before 10 by the width", "halve", 6, 11, *OUTSIDE),
+    operated_width("the width's least", "step", 0, 0, 0, 0, -1, LEAST + 1),
+    operated_width("10 below the width's least", "step", 10, 0,
+                   0, 0, -1, LEAST),
+    operated_width("the width's largest", "step", 0, 0, 0, 0, 1, MOST - 1),
+    operated_width("10 above the width's largest", "step", 10, 0,
+                   0, 0, 1, MOST),
+    operated_width("the width's a doubled", "double", 0, 1,
+                   2**30 - 1, 0, 0, 0),
+    operated_width("10 by the width's a doubled", "double", 10, 1,
+                   2**30, 0, 0, 0),
     ("half of an odd a", "halve", drawing(0, 0, -3, 0, 0, 0),
      line([0, *drawing(1, 0, -2, 2, 0, 0)])),
     started("1 before 2 and 3", 1, [16_384, 0, 0, 0], 12),
     started("2 before 3", 2, [683, 0, 0, 0], 12),
     started("3", 3, [682, 0, 0, 0], 12),
     started("none", 0, [682, 0, 0, 0], 11),
+    started("1 by a width", 1, AT_REST, 0, [16_384] * 4),
+    started("1 by a width below", 1, AT_REST, 0, [-16_385] * 4),
+    started("1 by the last width before 2 by y", 1, [683, 0, 0, 0], 12,
+            [0, 0, 0, 16_384]),
+    started("2 by a width before 3", 2, AT_REST, 12, [683, 0, 0, 0]),
+    started("2 by the last width", 2, AT_REST, 0, [0, 0, 0, -683]),
+    started("3 with widths", 3, AT_REST, 12, [682, 0, 0, 0]),
+    started("widths at their ends", 0, [16_383] * 4, 11, [-16_384] * 4),
+    started("widths as far apart as they may be", 0, AT_REST, 11,
+            [682, 0, 682, 0]),
     refused_choice("4 before 10 and 5", 4, 12, 2_048, [0, 0]),
     refused_choice("4 before 5", 4, 0, 2_048, [65_537, 0]),
     refused_choice("choosing: 10 before 5", 10, 12, 2_048),

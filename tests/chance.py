@@ -2,7 +2,7 @@
 
 It comes from the random.Random that is handed in, so that a seed decides it.
 """
-from itertools import cycle, islice
+from itertools import product
 
 from makers import point
 from model.constants import (FARTHEST, FINEST, HIGHEST, LEAST, LOWEST, MOST,
@@ -21,31 +21,33 @@ def clamped(value, least, most):
 
 # Points whose neighbours are near enough
 
-def corner(*ends):
-    """A point with one end of the range after the other."""
-    return tuple(islice(cycle(ends), POINT_NUMBERS))
+CORNERS = list(product([LOWEST, HIGHEST], repeat=POINT_NUMBERS))
 
 
-CORNERS = [corner(LOWEST, HIGHEST), corner(HIGHEST, LOWEST)]
+def random_start(chance):
+    """A first point: 0, anywhere, or at the ends of the range."""
+    anywhere = [chance.randint(LOWEST, HIGHEST) for _ in range(POINT_NUMBERS)]
+    return chance.choice([point(), tuple(anywhere), chance.choice(CORNERS)])
 
 
 def random_walk(chance, start, number, reach):
-    """So many points; reach() is how far the next may be."""
+    """So many points; reach() is how far the next may be in x and in y, and
+    how far in width."""
     points = []
     for _ in range(number):
         points.append(start)
-        far = reach()
-        start = tuple(clamped(value + chance.randint(-far, far), LOWEST,
-                              HIGHEST) for value in start)
+        of_place, of_width = reach()
+        far = of_place, of_place, of_width
+        start = tuple(clamped(value + chance.randint(-most, most), LOWEST,
+                              HIGHEST) for value, most in zip(start, far))
     return points
 
 
 def random_points(chance, number):
-    """So many, all of them near together or all far apart."""
-    reach = chance.choice([0, 1, 3, 3, 20, 20, 100, FARTHEST])
-    anywhere = point(chance.randint(LOWEST, HIGHEST), -9_000)
-    start = chance.choice([point(), anywhere, *CORNERS])
-    return random_walk(chance, start, number, lambda: reach)
+    """So many: all of them near together or all far apart, and so the widths
+    by themselves."""
+    reach = chance.choices([0, 1, 3, 3, 20, 20, 100, FARTHEST], k=2)
+    return random_walk(chance, random_start(chance), number, lambda: reach)
 
 
 # Good sheets, and what they are made of
@@ -67,9 +69,9 @@ def random_limits(chance):
 
 def random_path(chance):
     """A path of 1 or 2 segments, at times near the ends."""
-    start = chance.choice([point(), *CORNERS])
-    points = random_walk(chance, start, points_in(chance.randint(1, 2)),
-                         lambda: chance.choice([3, FARTHEST]))
+    points = random_walk(chance, random_start(chance),
+                         points_in(chance.randint(1, 2)),
+                         lambda: chance.choices([3, FARTHEST], k=2))
     return random_level(chance), points
 
 

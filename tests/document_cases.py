@@ -4,24 +4,29 @@ CASES has (letter, name of the request, argument words, answer line). The
 cases speak of one coordinate, x here; the others are 0 throughout. Every number
 of an answer is the document's, or reckoned by hand where it gives none: the
 lengths of B, K and L, the start and the step of M.
+
+SHEET is path A in the form of order 8, its widths 0; OLD_SHEET has the bytes
+that document 01 gives, which have no widths.
 """
 import makers
 from model.points import flat
 from probe_protocol import REGISTER_WORDS, line
 
 SHEET = bytes.fromhex("01000000 00000100 00800000 10000000 01000000"
-                      "00000000 01000000 02000000 03000000")
+                      "000000000000 010000000000 020000000000 030000000000")
+OLD_SHEET = bytes.fromhex("01000000 00000100 00800000 10000000 01000000"
+                          "00000000 01000000 02000000 03000000")
 LISTING = """\
 paths 1
 path 0 points 5 length 3000
-0 0 0
-512 1 0
-1024 2 0
-1536 2 0
-2048 3 0
+0 0 0 0
+512 1 0 0
+1024 2 0 0
+1536 2 0 0
+2048 3 0 0
 """
 
-SHEET_NUMBERS = [1, 65_536, 32_768, 1, 0, 0, 0, 1, 0, 2, 0, 3, 0]
+SHEET_NUMBERS = [1, 65_536, 32_768, 1, 0, 0, 0, 0, 1, 0, 0, 2, 0, 0, 3, 0, 0]
 
 LIMITS = [65_536, 32_768]
 

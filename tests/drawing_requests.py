@@ -62,7 +62,7 @@ def any_level(chance):
     return random_level(chance)
 
 
-def reached_drawing(chance):
+def reached(chance):
     """What random operations make of an accepted start."""
     refusal, drawing = start(random_points(chance, points_in(1)),
                              random_level(chance))
@@ -71,7 +71,19 @@ def reached_drawing(chance):
                                 [DOUBLE, STEP], [HALVE, STEP]])
     for _ in range(chance.choice([0, 1, 3, 10, 40])):
         _, drawing = operate(chance.choice(operations), drawing)
-    return words_of(drawing)
+    return drawing
+
+
+def reached_drawing(chance):
+    return words_of(reached(chance))
+
+
+def wide_drawing(chance):
+    """The width's registers are made up, and most times its c is large."""
+    a, b, c, d = any_words(chance, len(STILL))
+    if not one_in(chance, 4):
+        c = chance.choice([1, -1]) * chance.randrange(2**28, 2**31)
+    return words_of(reached(chance)._replace(width=(a, b, c, d)))
 
 
 def random_position(chance, level):
@@ -92,9 +104,15 @@ NEW_REGISTERS = {"halve": halve_registers, "double": double_registers,
                  "step": step_registers}
 
 
+def inner_registers(chance):
+    """Registers of which every new one is within 32 bits."""
+    size = chance.choice([0, 8, 29])
+    return [chance.randrange(-2**size, 2**size) for _ in STILL]
+
+
 def edge_registers(chance, level, name):
     """Registers of which a new one is at the edge of 32 bits, or past it."""
-    registers = [chance.randrange(-2**29, 2**29) for _ in STILL]
+    registers = inner_registers(chance)
     place = chance.randrange(len(STILL))
     edge = chance.choice([MOST, MOST + 1, LEAST, LEAST - 1])
     if place == 0:
@@ -106,12 +124,13 @@ def edge_registers(chance, level, name):
 
 
 def edge_drawing(chance, name):
-    """At least one coordinate is at the edge, the others are still."""
+    """At least one coordinate is at the edge, as the width alone."""
     level = random_level(chance)
     q = chance.randrange(2**level) * step_size(level)
-    moved = edge_registers(chance, level, name)
-    _, *some_moved = product([STILL, moved], repeat=POINT_NUMBERS)
-    return [level, q, *flat(chance.choice(some_moved))]
+    _, *some_moved = product([False, True], repeat=POINT_NUMBERS)
+    return [level, q, *flat(edge_registers(chance, level, name) if moved
+                            else inner_registers(chance)
+                            for moved in chance.choice(some_moved))]
 
 
 # Requests
@@ -136,7 +155,8 @@ def make_operation(chance, name):
 
 
 def any_drawing(chance):
-    maker = chance.choice([reached_drawing, reached_drawing, made_up_drawing])
+    maker = chance.choice([reached_drawing, reached_drawing, wide_drawing,
+                           made_up_drawing])
     return maker(chance)
 
 

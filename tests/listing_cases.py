@@ -8,22 +8,30 @@
 import random
 
 from chance import damage, random_sheet, strange_byte
-from document_cases import SHEET
-from makers import LEVELS, LONGEST, MANY, point, sheet, straight, zigzag
+from document_cases import OLD_SHEET, SHEET
+from makers import (LEVELS, LONGEST, LONGEST_SEGMENTS, MANY, on_width, point,
+                    sheet, straight, zigzag)
 from model.constants import (DEGREE, FARTHEST, FINEST, HIGHEST, LOWEST,
                              MOST_BYTES, MOST_SEGMENTS, ONE_UNIT)
 from model.sheet import sheet_bytes
+from old_form import BY_HAND, OLD_PAIR
 from spoilt import BENT, SPOILT_SHEETS, two_of_each
 
-# 32,769 bytes. Of the first 32,768 the last 8 stand after the last record: a
-# program that asks for no more refuses them by 16.
-TOO_LONG = LONGEST + bytes(MOST_BYTES + 1 - len(LONGEST))
+# 32,769 bytes, of which the first 32,768 are a sheet: a program that asks for
+# no more lists it.
+TOO_LONG = LONGEST + bytes(1)
+
+# As many bytes as a sheet may have, the last ones after its last record.
+FILLED = sheet(*map(straight, LONGEST_SEGMENTS[:-1]))
+FILLED += bytes(MOST_BYTES - len(FILLED))
 
 
-def wave(segments, level, width, height):
-    """A path of curves that go up and down, and on to the right."""
-    _, points = straight(segments, level, (-80 * segments, 0), (width, 0))
-    return level, [point(x, height if i % DEGREE == 1 else -height)
+def wave(segments, level, dx, height, widths=(0, 0)):
+    """A path of curves that go up and down, and on to the right; the widths
+    go from the first to the second, and back in the next segment."""
+    _, points = straight(segments, level, (-80 * segments,), (dx,))
+    return level, [point(x, height if i % DEGREE == 1 else -height,
+                         widths[i // DEGREE % 2])
                    for i, (x, *_) in enumerate(points)]
 
 
@@ -31,12 +39,12 @@ def wave(segments, level, width, height):
 
 def edge_sheets():
     spoilt = [data for sheets in SPOILT_SHEETS.values() for data in sheets]
-    return [SHEET, sheet(), LONGEST, TOO_LONG[:-1], TOO_LONG,
+    return [SHEET, OLD_SHEET, sheet(), LONGEST, LONGEST[:-1], FILLED, TOO_LONG,
             LONGEST + bytes(40_000 - len(LONGEST)), sheet(*MANY),
             sheet(*MANY) + bytes(1), sheet(wave(MOST_SEGMENTS, 3, 5, 7)),
-            sheet(zigzag(MOST_SEGMENTS, 0, FARTHEST, -FARTHEST)),
-            sheet_bytes(1, 0, [wave(MOST_SEGMENTS, FINEST, 6, 300)]),
-            *spoilt]
+            sheet(zigzag(MOST_SEGMENTS, 0, FARTHEST, -FARTHEST, FARTHEST)),
+            sheet_bytes(1, 0, [wave(MOST_SEGMENTS, FINEST, 6, 300, (5, 600))]),
+            *spoilt, *[data for _, data in BY_HAND]]
 
 
 # By chance
@@ -60,26 +68,33 @@ def make_sheets(seed, number):
 # For the gate
 
 def good_sheets():
-    corner = straight(2, 6, (LOWEST, HIGHEST), (3, -2))
-    slow = 0, [point(), point(), point(), point(8, -8)]
+    corner = straight(2, 6, (LOWEST, HIGHEST, LOWEST), (3, -2, 1))
+    slow = 0, [point(0, 0, 24), point(0, 0, 24), point(0, 0, 16),
+               point(8, -8, 8)]
     return [
         SHEET,
         sheet(),
         sheet_bytes(1, 1, []),
-        sheet(straight(1, 5, (7, -7), (0, 0)), zigzag(2, 0, 9, -4), BENT),
-        sheet_bytes(40_000, 20_000, [wave(3, 1, 9, 12), corner, BENT]),
-        sheet_bytes(ONE_UNIT, ONE_UNIT, [wave(2, FINEST, 30, 40),
+        sheet(straight(1, 5, (7, -7, 9), (0, 0)), zigzag(2, 0, 9, -4, 60),
+              BENT),
+        # The width alone moves; it ends beyond what x and y are.
+        sheet((0, on_width(5, -3, 0, 682, 1_364, 2_046)),
+              (3, on_width(0, 0, -15_000, -15_682, -16_364, -16_384))),
+        sheet_bytes(40_000, 20_000, [wave(3, 1, 9, 12, (24, 8)), corner, BENT]),
+        sheet_bytes(ONE_UNIT, ONE_UNIT, [wave(2, FINEST, 30, 40, (-7, 600)),
                                          wave(5, 4, 2, 1)]),
-        sheet_bytes(ONE_UNIT, 0, [zigzag(4, 2, -60, 25), corner]),
+        sheet_bytes(ONE_UNIT, 0, [zigzag(2, 2, -60, 25, 7), corner]),
         sheet_bytes(20_000, 19_999, [slow]),
-        sheet(*[straight(1, level, (level, -level), (-level, 2))
+        sheet(*[straight(1, level, (level, -level, 3), (-level, 2, level))
                 for level in range(LEVELS)]),
-        sheet(wave(MOST_SEGMENTS, 2, 5, 6)),
-        # All steps at level 11: 2,049 entries.
-        sheet(straight(1, 0, (-1_023, 1_023), (FARTHEST, -FARTHEST))),
+        sheet(wave(MOST_SEGMENTS, 2, 5, 6, (9, 3))),
+        # All steps at level 11: 2,049 entries. The widths are their lowest.
+        sheet(straight(1, 0, (-1_023, 1_023, LOWEST),
+                       (FARTHEST, -FARTHEST))),
     ]
 
 
 def gate_sheets():
-    """Good ones, and ones for each refusal but 9."""
-    return good_sheets() + [data for _, data in two_of_each()]
+    """Good ones, ones for each refusal but 9, and ones of the old form."""
+    return (good_sheets() + [data for _, data in two_of_each()]
+            + [OLD_SHEET, OLD_PAIR])

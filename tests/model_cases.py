@@ -3,31 +3,37 @@
     python3 tests/model_cases.py
 
 Every expected number was reckoned by hand or is the document's. Beside them,
-random drawings are held to the exact curve, and listings to those that are
-proved.
+random drawings are held to the exact curve, random paths to what order 8 says
+of widths and of old sheets, and listings to those that are proved.
 """
+import random
 import re
 import sys
 
 from above import ROOT
 from boundaries import CASES as BOUNDARIES
-from document_cases import CASES, LISTING, SHEET, SHEET_NUMBERS
+from chance import random_level, random_limits, random_points
+from document_cases import CASES, LISTING, OLD_SHEET, SHEET, SHEET_NUMBERS
 from exact_curve import check_distance, check_start
-from makers import LONGEST, number_list, on_x, point, sheet, straight
+from makers import (LONGEST, LONGEST_SEGMENTS, number_list, on_x, point, sheet,
+                    straight)
 from model import constants
-from model.constants import ENTRY_NUMBERS, LEAST, MOST, STANDARD_LIMITS
+from model.constants import (DEGREE, END, ENTRY_NUMBERS, LEAST, MOST,
+                             STANDARD_LIMITS)
 from model.drawing import (DOUBLE, HALVE, STEP, ZEROS, choose, operate, shown,
                            start)
 from model.listing import listing
-from model.path import draw, measure
+from model.path import draw, length, measure, path_entries
 from model.points import Point, flat, numbers_in, points_in
 from model.sheet import read_sheet, sheet_bytes, write_sheet
+from old_form import BY_HAND, REFUSALS, old_sheet, random_old_sheets
 from places import COUNT, UPPER, offset, put, swap
 from probe_model import answered
 from probe_protocol import request
 from spoilt import (FIRST, LISTED_ONLY, ONE, ONE_LIST, ONLY, SECOND,
                     SPOILT_LISTS, SPOILT_SHEETS, TWO)
 from tally import Tally
+from width_cases import CASES as WIDTHS
 
 ROOM = 40_000           # for every sheet and every number list
 
@@ -39,7 +45,7 @@ def with_x(level, q, *registers):
 
 # The document
 
-NUMBERS = [("POINT_NUMBERS", 2), ("ENTRY_NUMBERS", 3), ("LOWEST", -16_384),
+NUMBERS = [("POINT_NUMBERS", 3), ("ENTRY_NUMBERS", 4), ("LOWEST", -16_384),
            ("HIGHEST", 16_383), ("FARTHEST", 682), ("FINEST", 11),
            ("END", 2_048), ("LEAST", -2_147_483_648), ("MOST", 2_147_483_647),
            ("ONE_UNIT", 65_536), ("STANDARD_LIMITS", (65_536, 32_768)),
@@ -51,12 +57,12 @@ def check_numbers(tally):
     for name, number in NUMBERS:
         tally.equal(name, getattr(constants, name), number)
     tally.equal("points of 64 segments", points_in(64), 193)
-    tally.equal("numbers of 64 segments", numbers_in(64), 386)
+    tally.equal("numbers of 64 segments", numbers_in(64), 579)
 
 
 def check_document(tally):
-    for letter, name, words, line in CASES:
-        tally.equal(f"case {letter}, {name}",
+    for what, name, words, line in CASES + WIDTHS:
+        tally.equal(f"case {what}, {name}",
                     answered(request(name, words))[0], line)
     tally.equal("the sheet of A", SHEET, ONE)
     tally.equal("the number list of A", SHEET_NUMBERS, ONE_LIST)
@@ -72,22 +78,25 @@ def check_boundaries(tally):
 
 PROVED = ROOT / "crates" / "listing_text" / "proofs" / "Example.antt"
 
-SECOND_PATHS = [(4, [(0, -1), (-2, 1), (0, -1), (-2, 0), (-2, -1), (-2, 0), (-2, -1)]),
-                (2, [(1, 1), (0, 2), (2, 1), (0, 2)])]
+SECOND_PATHS = [(4, [(0, -1, 9), (-2, 1, 9), (0, -1, 7), (-2, 0, 4),
+                     (-2, -1, 1), (-2, 0, -1), (-2, -1, -2)]),
+                (2, [(1, 1, 0), (0, 2, 30), (2, 1, -30), (0, 2, 12)])]
 
 
 def proved_bytes(name):
     """The list of this name, as it stands in the proof."""
-    rows = re.search(rf"^{name} =\n((?: .*\n)+)", PROVED.read_text("utf-8"), re.M)
+    text = PROVED.read_text("utf-8")
+    rows = re.search(rf"^{name} =\n((?: .*\n)+)", text, re.M)
     return bytes(map(int, re.findall(r"\d+", rows[1])))
 
 
 def check_proved(tally):
-    paths = [(level, [Point(*each) for each in points]) for level, points in SECOND_PATHS]
-    second = sheet_bytes(60_000, 26_000, paths)
+    second = sheet_bytes(60_000, 26_000, SECOND_PATHS)
     tally.equal("the second sheet", proved_bytes("secondBytes"), second)
-    tally.equal("its proved listing", proved_bytes("secondText"), listing(second).encode())
-    tally.equal("the proved listing of A", proved_bytes("documentText"), LISTING.encode())
+    tally.equal("its proved listing", proved_bytes("secondText"),
+                listing(second).encode())
+    tally.equal("the proved listing of A", proved_bytes("documentText"),
+                LISTING.encode())
 
 
 # Drawings
@@ -140,13 +149,16 @@ def segment(*numbers):
 
 def check_paths(tally):
     check, limits = tally.equal, STANDARD_LIMITS
-    for segments in (715_827_882, 715_827_883):
-        check("2(3S+1) does not wrap round",
-              measure(segments, 0, limits, [0] * 4), (14, 0, 0))
-    points = on_x(0, 700, 700, 700, 700, 700, 700)
-    points[5] = point(700, 16_384)
-    check("1 over all points before 2",
-          measure(2, 0, limits, flat(points)), (1, 0, 0))
+    # 3(3S + 1) is 2^32 - 1 for the first, and 2^32 + 8 for the second.
+    for segments in (477_218_588, 477_218_589):
+        check("3(3S+1) does not wrap round",
+              measure(segments, 0, limits, [0] * 8), (14, 0, 0))
+    check("two numbers a point", measure(1, 0, limits, [0] * 8), (14, 0, 0))
+    for bad in (point(700, 16_384), point(700, 0, 16_384)):
+        points = on_x(0, 700, 700, 700, 700, 700, 700)
+        points[5] = bad
+        check("1 over all points before 2",
+              measure(2, 0, limits, flat(points)), (1, 0, 0))
     points = [point(x, y) for x, y in
               [(2, 2), (1, 1), (4, 4), (2, 1), (2, 3), (4, 0), (2, 2)]]
     *_, numbers = draw(100, 2, 1, limits, flat(points))
@@ -159,7 +171,7 @@ def check_paths(tally):
     check("one short", draw(len(whole) - 1, 1, 0, limits, fives),
           (9, 0, 0, []))
     check("exact", draw(len(whole), 1, 0, limits, fives), (0, 2, 0, whole))
-    _, points = straight(1, 0, (0, 0), (682, 682))
+    _, points = straight(1, 0, (0, 0, 5), (682, 682, -600))
     check("a long segment", measure(1, 0, limits, flat(points)),
           (0, 2_049, 2_046 * 1_414))
     check("the most points", measure(64, 11, (65_536, 0), [9] * numbers_in(64)),
@@ -198,11 +210,28 @@ def check_reading(tally):
           put(TWO, (FIRST.x(3), 700), (SECOND.x(0), 16_384)), 2)
     check("upper is unsigned", put(ONE, (UPPER, 2**31)), 4)
     check("an offset is unsigned", put(ONE, (offset(0), 2**32 - 1)), 13)
-    tally.equal("bytes of the longest sheet", len(LONGEST), 32_760)
-    check("the longest sheet", LONGEST, 0)
-    check("32,768 bytes", LONGEST + bytes(8), 16)
-    check("32,769 bytes", LONGEST + bytes(9), 11)
     tally.equal("no path", listing(sheet()), "paths 0\n")
+
+
+def check_longest(tally):
+    tally.equal("its paths and segments",
+                (len(LONGEST_SEGMENTS), sum(LONGEST_SEGMENTS)), (46, 1_784))
+    tally.equal("bytes of the longest sheet", len(LONGEST), 32_768)
+    for what, data, refusal in [("whole", LONGEST, 0),
+                                ("a byte less", LONGEST[:-1], 15),
+                                ("a byte more", LONGEST + bytes(1), 11)]:
+        tally.equal(f"the longest sheet, {what}", read_sheet(data, ROOM)[0],
+                    refusal)
+    numbers = number_list(*map(straight, LONGEST_SEGMENTS))
+    tally.equal("its numbers", len(numbers), 16_289)
+    tally.equal("written", write_sheet(numbers, 32_768), (0, LONGEST))
+    tally.equal("read", read_sheet(LONGEST, 16_289), (0, numbers))
+    tally.equal("a byte short", write_sheet(numbers, 32_767), (9, b""))
+    tally.equal("a number short", read_sheet(LONGEST, 16_288), (9, []))
+    paths = [straight(1)] * 1_023
+    tally.equal("1,023 paths", len(sheet(*paths)), 32_748)
+    tally.equal("1,024 paths do not fit",
+                write_sheet(number_list(*paths, straight(1)), ROOM), (11, b""))
 
 
 def check_writing(tally):
@@ -211,16 +240,18 @@ def check_writing(tally):
 
     big = straight(64)
     check("12 looks at the count alone", [1_024, 65_536, 32_768], 17)
-    check("33,552 bytes", number_list(*[big] * 43), 11)
-    tally.equal("that many", len(sheet(*[big] * 43)), 33_552)
-    check("17 before 11", number_list(*[big] * 43) + [0], 17)
+    check("33,826 bytes", number_list(*[big] * 29), 11)
+    tally.equal("that many", len(sheet(*[big] * 29)), 33_826)
+    check("17 before 11", number_list(*[big] * 29) + [0], 17)
     check("a bad path before 11",
           number_list(*[big] * 60, straight(1, 12)), 3)
-    check("2(3S+1) is not reckoned",
+    check("3(3S+1) is not reckoned",
           swap(ONE_LIST, (LISTED_ONLY.segments, MOST)), 14)
     check("a negative level", swap(ONE_LIST, (LISTED_ONLY.level, -1)), 3)
     check("a coordinate is not cut to 16 bits",
           swap(ONE_LIST, (LISTED_ONLY.x(0), 65_536)), 1)
+    check("a width is not cut to 16 bits",
+          swap(ONE_LIST, (LISTED_ONLY.width(3), 65_536)), 1)
 
 
 def check_spoilt(tally):
@@ -236,12 +267,58 @@ def check_spoilt(tally):
                         (number, b""))
 
 
+# Order 8
+
+def places_of(entries):
+    """The entries without their widths."""
+    return [entry[:-1] for entry in entries]
+
+
+def check_widths(tally):
+    """Of random paths: what their widths change, and what they do not."""
+    chance = random.Random(8)
+    for _ in range(60):
+        points = [Point(*each) for each in
+                  random_points(chance, points_in(chance.randint(1, 3)))]
+        path = random_level(chance), *random_limits(chance)
+        entries = path_entries(points, *path)
+        joins = [tuple(entry[1:]) for entry in entries
+                 if entry.position % END == 0]
+        tally.equal(f"the joins of {points}", joins, points[::DEGREE])
+        still = [each._replace(width=0) for each in points]
+        without = path_entries(still, *path)
+        tally.equal(f"the places of {points}", places_of(entries),
+                    places_of(without))
+        tally.equal(f"the length of {points}", length(entries),
+                    length(without))
+
+
+def check_old_form(tally):
+    """A sheet of the old form with any path in it is always refused."""
+    for refusal, data in [(15, OLD_SHEET), *BY_HAND]:
+        tally.equal(f"old sheet {data.hex()}", read_sheet(data, ROOM),
+                    (refusal, []))
+    met = set()
+    for count, data in random_old_sheets(54, 400):
+        refusal, numbers = read_sheet(data, ROOM)
+        may_be = {15} if count == 1 else REFUSALS
+        tally.holds(f"an old sheet of {count} paths",
+                    refusal in may_be and numbers == [], refusal)
+        met.add(refusal)
+    tally.equal("refusals of old sheets", met, REFUSALS)
+    tally.equal("without a path the forms are one",
+                old_sheet(*STANDARD_LIMITS, []), sheet())
+    tally.equal("and accepted", read_sheet(sheet(), ROOM),
+                (0, [0, *STANDARD_LIMITS]))
+
+
 def main():
     tally = Tally()
     for check in (check_numbers, check_document, check_boundaries,
                   check_proved, check_choosing, check_edges, check_start,
-                  check_paths, check_path_order, check_reading,
-                  check_writing, check_spoilt, check_distance):
+                  check_paths, check_path_order, check_reading, check_longest,
+                  check_writing, check_spoilt, check_distance, check_widths,
+                  check_old_form):
         check(tally)
     sys.exit(tally.end())
 

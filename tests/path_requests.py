@@ -42,9 +42,9 @@ class Path:
     def resize(self, chance):
         """The points' numbers made more or fewer, at least 4."""
         if one_in(chance, 2):
-            self.numbers += [0] * chance.choice([1, 2, 6, 8])
+            self.numbers += [0] * chance.choice([1, 2, 3, 9, 12])
         else:
-            less = chance.choice([1, 2, 4])
+            less = chance.choice([1, 2, 3, 4, 8])
             self.numbers = self.numbers[:-less]
 
     def room(self, chance):
@@ -52,10 +52,10 @@ class Path:
         if one_in(chance, 60):
             return MOST_ROOM
         if one_in(chance, 4):
-            return chance.choice([0, 1, 5, 6, 20, chance.randrange(100)])
+            return chance.choice([0, 1, 7, 8, 20, chance.randrange(100)])
         _, points, _ = measure(self.segments, self.level, self.limits,
                                self.numbers)
-        more = chance.choice([0, 0, 0, 1, 20, -1, -2, -3])
+        more = chance.choice([0, 0, 0, 1, 20, -1, -2, -3, -4])
         return clamped(ENTRY_NUMBERS * points + more, 0, MOST_ROOM)
 
     def words(self):

@@ -30,6 +30,9 @@ class PathPlaces:
     def y(self, point):
         return self.numbers[POINT_NUMBERS * point + 1]
 
+    def width(self, point):
+        return self.numbers[POINT_NUMBERS * point + 2]
+
 
 def record_places(paths):
     """The places of each path in the sheet's bytes."""

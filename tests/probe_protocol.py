@@ -5,15 +5,15 @@ argument words. It is answered by one line of numbers. A word that stands for
 an unsigned number is the same 32 bits.
 
     code               arguments                             answer
-     1 start           x0 y0 ... x3 y3 level                 refusal drawing
+     1 start           points level                          refusal drawing
      2 halve           drawing                               refusal drawing
      3 double          drawing                               refusal drawing
      4 step            drawing                               refusal drawing
      5 next            drawing upper lower                   refusal operation
-     6 shown           drawing                               x y
-     7 draw            room segments level upper lower x y.. refusal points
-                                                             length list
-     8 measure         segments level upper lower x y...     refusal points
+     6 shown           drawing                               x y width
+     7 draw            room segments level upper lower       refusal points
+                       points                                length list
+     8 measure         segments level upper lower points     refusal points
                                                              length
      9 read            room byte...                          refusal count list
     10 write           room number...                        refusal count bytes
@@ -21,10 +21,11 @@ an unsigned number is the same 32 bits.
     12 measure_standard  as 8, without upper and lower
     13 next_standard     as 5, without upper and lower
 
-A drawing is level, q, then a b c d of each coordinate. The list and the
-bytes are the first `room` of a lent buffer after the call; the buffer holds
--7 (a list) or 7 (bytes) in every place before it. The operations that are
-answered are 0 halve, 1 double, 2 step.
+Points are x, y and width of each; a start has four. A drawing is level, q,
+then a b c d of x, of y and of the width. The list and the bytes are the first
+`room` of a lent buffer after the call; the buffer holds -7 (a list) or 7
+(bytes) in every place before it. The operations that are answered are 0 halve,
+1 double, 2 step.
 
 Any other request is answered by "bad request". Its words are passed over;
 after a count out of range nothing is, so the next request starts there. A
@@ -48,12 +49,13 @@ NAMES = {code: name for name, code in CODES.items()}
 
 REGISTER_WORDS = len(STILL) * POINT_NUMBERS
 DRAWING_WORDS = 2 + REGISTER_WORDS
+POINTS_START = {"start": 0, "draw": 5, "measure": 4, "draw_standard": 3,
+                "measure_standard": 2}
 EXACT_WORDS = {"start": numbers_in(1) + 1, "halve": DRAWING_WORDS,
                "double": DRAWING_WORDS, "step": DRAWING_WORDS,
                "next": DRAWING_WORDS + 2, "shown": DRAWING_WORDS,
                "next_standard": DRAWING_WORDS}
-LEAST_WORDS = {"draw": 5, "measure": 4, "read": 1, "write": 1,
-               "draw_standard": 3, "measure_standard": 2}
+LEAST_WORDS = {"read": 1, "write": 1, **POINTS_START}
 WITH_ROOM = {"draw", "read", "write", "draw_standard"}
 
 

@@ -1,10 +1,13 @@
 """Sheets that are refused in reading, each with its refusal, and their order.
+Those of the old form are among them.
 
 `read(refusal, sheet)` and `read(refusal, sheet, room)` take what is made here.
 """
+from document_cases import OLD_SHEET
 from makers import sheet, straight
 from model.constants import (FINEST, HIGHEST, LOWEST, MOST_PATHS,
-                             MOST_SEGMENTS, ONE_UNIT)
+                             MOST_SEGMENTS, ONE_UNIT, STANDARD_LIMITS)
+from old_form import BY_HAND, old_sheet, random_old_sheets
 from places import COUNT, LOWER, UPPER, offset, put, record_places
 from spoilt import BENT, FAR, FIRST, GAP, ONE, ONLY, SECOND, TWO
 
@@ -100,7 +103,7 @@ def add_records(read):
     # 1: every place of a path; beside a good neighbour it is 1 alone.
     for good, bad in [(HIGHEST, HIGHEST + 1), (LOWEST, LOWEST - 1),
                       (0, 32_767), (0, -32_768)]:
-        data = sheet(straight(1, 0, (good, good), (0, 0)))
+        data = sheet(straight(1, 0, (good, good, good), (0, 0)))
         read(0, data)
         for place in ONLY.numbers:
             read(1, put(data, (place, bad)))
@@ -138,6 +141,12 @@ def add_order(read):
     read(15, put(ONE, (ONLY.x(1), GAP))[:-1])
     # 1 over all points before 2: the last point bad, the first pair apart.
     read(1, put(ONE, (ONLY.x(1), GAP), (ONLY.y(3), LOWEST - 1)))
+    read(1, put(ONE, (ONLY.x(1), GAP), (ONLY.width(3), FAR)))
+    read(1, put(ONE, (ONLY.width(1), GAP), (ONLY.x(3), FAR)))
+    # 2 by a width alone, of each pair of the path, and before 16.
+    for k in range(4):
+        read(2, put(ONE, (ONLY.width(k), GAP)))
+        read(2, put(ONE, (ONLY.width(k), -GAP)) + bytes(1))
     # 2 before 16 and 9; 1 before 16; 16 before 9.
     read(2, put(ONE, (ONLY.x(3), GAP)) + bytes(1))
     read(2, put(ONE, (ONLY.x(3), GAP)), 0)
@@ -179,7 +188,20 @@ def add_order_across(read):
             read(13, put(before, (offset(k), wrong)))
 
 
+# The old form
+
+def add_old(read):
+    # With no path both forms are the same 12 bytes.
+    read(0, old_sheet(*STANDARD_LIMITS, []))
+    read(15, OLD_SHEET)
+    for refusal, data in BY_HAND:
+        read(refusal, data)
+        read(refusal, data, 0)
+    for count, data in random_old_sheets(4, 20):
+        read(15 if count == 1 else None, data)
+
+
 def add_all(read):
     for add in (add_header, add_limits, add_offsets, add_records, add_order,
-                add_order_across):
+                add_order_across, add_old):
         add(read)

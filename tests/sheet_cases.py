@@ -16,10 +16,11 @@ from collections import Counter
 
 import reading_cases
 import writing_cases
-from chance import damage, random_sheet, strange_byte, strange_number
+from chance import (CORNERS, damage, random_sheet, strange_byte,
+                    strange_number)
 from document_cases import SHEET, SHEET_NUMBERS
-from makers import (LEVELS, LONGEST_SEGMENTS, MANY, jump, number_list, point,
-                    sheet, straight, zigzag)
+from makers import (LEVELS, LONGEST_SEGMENTS, MANY, jump, number_list,
+                    on_width, point, sheet, straight, zigzag)
 from model.constants import (FARTHEST, FINEST, HIGHEST, LOWEST, MOST_BYTES,
                              MOST_SEGMENTS, ONE_UNIT, STANDARD_LIMITS)
 from model.sheet import read_sheet, sheet_bytes, sheet_numbers, write_sheet
@@ -76,8 +77,9 @@ class Cases:
 
     def both(self, expected, *paths):
         """The sheet of these paths read, and its number list written."""
-        self.read(expected, sheet(*paths))
-        self.write(expected, number_list(*paths))
+        data = sheet(*paths)
+        self.read(expected, data)
+        self.write(expected, number_list(*paths), max(ROOM, len(data)))
 
 
 # Good sheets, read and written, with every kind of room
@@ -88,21 +90,23 @@ def good_sheets():
     for upper, lower in limits:
         yield upper, lower, []
         yield upper, lower, [straight(1)]
-    several = [straight(2, 5, (10, -10), (-3, 4)), straight(1, FINEST),
-               straight(MOST_SEGMENTS, 7, (LOWEST, HIGHEST), (2, -2)), BENT,
-               straight(3, 1, (9, 9), (0, 0))]
+    several = [straight(2, 5, (10, -10, 24), (-3, 4, -2)), straight(1, FINEST),
+               straight(MOST_SEGMENTS, 7, (LOWEST, HIGHEST, 90), (2, -2, 1)),
+               BENT, straight(3, 1, (9, 9, 9), (0, 0))]
     yield 3, 2, several
     yield ONE_UNIT, 1, several[::-1]
     yield 255, 254, PAIR
     yield ONE_UNIT - 1, 257, [straight(1, level) for level in range(LEVELS)]
     # Coordinates at both ends, each way round.
-    for x in (LOWEST, HIGHEST):
-        for y in (LOWEST, HIGHEST):
-            yield (*STANDARD_LIMITS, [straight(2, 4, (x, y), (0, 0))])
+    for ends in CORNERS:
+        yield (*STANDARD_LIMITS, [straight(2, 4, ends, (0, 0))])
     # Neighbours exactly as far apart as they may be.
-    for x, y in [(1, 0), (0, 1), (1, 1), (-1, 1), (1, -1)]:
-        yield (*STANDARD_LIMITS, [zigzag(2, 0, FARTHEST * x, FARTHEST * y)])
-    yield (*STANDARD_LIMITS, [straight(16, 0, (LOWEST, HIGHEST), (668, -668))])
+    for ways in [(1, 0, 0), (0, 1, 0), (0, 0, 1), (1, 1, -1), (-1, 1, 1),
+                 (1, -1, 1), (0, 0, -1)]:
+        yield (*STANDARD_LIMITS, [zigzag(2, 0, *[FARTHEST * way
+                                                 for way in ways])])
+    yield (*STANDARD_LIMITS, [straight(16, 0, (LOWEST, HIGHEST, LOWEST),
+                                       (668, -668, 667))])
 
 
 def add_good(cases):
@@ -121,56 +125,60 @@ def add_good(cases):
 
 def add_neighbours(cases):
     # 682 is accepted and 683 refused: each pair of a path of two segments,
-    # so also before and after the join, in x and y, up and down.
+    # so also before and after the join, in x, y and width, up and down.
     for after in range(6):
-        for dx, dy in [(1, 0), (-1, 0), (0, 1), (0, -1)]:
+        for ways in [(1, 0, 0), (-1, 0, 0), (0, 1, 0), (0, -1, 0), (0, 0, 1),
+                     (0, 0, -1)]:
             for expected, gap in [(0, FARTHEST), (2, FARTHEST + 1)]:
-                cases.both(expected, jump(2, after, gap * dx, gap * dy))
+                cases.both(expected, jump(2, after, *[gap * way
+                                                      for way in ways]))
     # The widest gap there is; and paths have no neighbours in other paths.
     cases.both(2, (0, [point(LOWEST), point(HIGHEST), point(), point()]))
-    cases.both(0, *[straight(1, 0, (end, end), (0, 0))
+    cases.both(2, (0, on_width(0, 0, LOWEST, HIGHEST, 0, 0)))
+    cases.both(0, *[straight(1, 0, (end, end, end), (0, 0))
                     for end in (LOWEST, HIGHEST)])
 
 
 def add_large(cases):
-    # The largest accepted sheet.
-    *most, last = LONGEST_SEGMENTS
-    parts = [straight(segments, k % LEVELS, (-k, k), (k % 7, -3))
-             for k, segments in enumerate(most)] + [straight(last)]
+    # The largest accepted sheet; a byte less and a byte more.
+    parts = [straight(segments, k % LEVELS, (-k, k, 2 * k), (k % 7, -3, k % 5))
+             for k, segments in enumerate(LONGEST_SEGMENTS)]
     data, listed = sheet(*parts), number_list(*parts)
-    assert len(data) == 32_760
+    assert len(data) == MOST_BYTES
     cases.read(0, data, len(listed))
     cases.write(0, listed, len(data))
-    # A sheet may have 32,768 bytes, though these are 8 too many for its last
-    # record; 32,769 are refused for their number.
-    cases.read(16, data + bytes(8), MOST_ROOM)
-    cases.read(11, data + bytes(9), MOST_ROOM)
-    # One segment more is 32,772 bytes: too large, though there is room.
-    big = straight(MOST_SEGMENTS)
-    parts[-1] = big
-    cases.write(11, number_list(*parts), MOST_ROOM)
-    # 43 paths of 64 segments; with a number left over 17 comes before 11.
-    listed = number_list(*parts, big)
-    assert len(sheet(*parts, big)) == 33_552
-    cases.write(11, listed, MOST_BYTES)
-    cases.write(17, listed + [0], MOST_BYTES)
-    # 42 good big paths and a bad one: its number, though 11 would be met.
-    one_more = swap(number_list(*parts), (LISTED_COUNT, len(parts) + 1))
+    cases.read(15, data[:-1], MOST_ROOM)
+    cases.read(11, data + bytes(1), MOST_ROOM)
+    # As many bytes, the last 50 of them after the last record.
+    shorter = sheet(*parts[:-1])
+    cases.read(16, shorter + bytes(MOST_BYTES - len(shorter)), MOST_ROOM)
+    # One segment more is too large, though there is room; with a number left
+    # over 17 comes before 11.
+    parts[-1] = straight(3)
+    listed = number_list(*parts)
+    assert len(sheet(*parts)) == MOST_BYTES + 18
+    cases.write(11, listed, MOST_ROOM)
+    cases.write(17, listed + [0], MOST_ROOM)
+    # Good paths that are too large and a bad one: its number before 11.
+    one_more = swap(listed, (LISTED_COUNT, len(parts) + 1))
     cases.write(3, one_more + [1, FINEST + 1], MOST_ROOM)
-    # As many paths as there may be.
+    # As many paths as there is room for, and as many as may be counted, which
+    # are too large: 32,780 bytes.
     cases.read(0, sheet(*MANY), MOST_ROOM)
     cases.write(0, number_list(*MANY), MOST_ROOM)
-    # As many that are too large by the least there is: 32,772 bytes.
-    parts = [straight(2)] * 682 + [straight(1)] * 342
-    assert len(sheet(*parts)) == 32_772
-    cases.write(11, number_list(*parts), MOST_ROOM)
+    assert len(sheet(*MANY, straight(1))) == 32_780
+    cases.write(11, number_list(*MANY, straight(1)), MOST_ROOM)
+    # Too large by the least there is, 2 bytes: 50 paths, 1,781 segments.
+    parts = [straight(64)] * 26 + [straight(5)] * 23 + [straight(2)]
+    assert len(sheet(*parts)) == MOST_BYTES + 2
+    cases.write(11, number_list(*parts), MOST_BYTES)
 
 
 # Random damage to small good sheets and lists
 
 def add_random(cases):
     chance = random.Random(1)
-    for _ in range(150):
+    for _ in range(100):
         parts = random_sheet(chance)
         exact = len(sheet_numbers(*parts))
         data = bytes(damage(chance, sheet_bytes(*parts), strange_byte))

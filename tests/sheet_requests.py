@@ -25,7 +25,7 @@ def random_room(chance, exact):
 
 def make_read(chance):
     if one_in(chance, 200):
-        paths = [straight(MOST_SEGMENTS)] * chance.randint(1, 20)
+        paths = [straight(MOST_SEGMENTS)] * chance.randint(1, 14)
         return [MOST_ROOM, *sheet(*paths)]
     parts = random_sheet(chance)
     data = spoil(chance, sheet_bytes(*parts), strange_byte, SPOILT_SHEETS)
@@ -36,8 +36,9 @@ def make_read(chance):
 
 def make_write(chance):
     if one_in(chance, 200):
-        paths = [straight(MOST_SEGMENTS)] * chance.randint(1, 42)
-        return [MOST_ROOM, *number_list(*paths)]
+        paths = [straight(MOST_SEGMENTS)] * chance.randint(1, 28)
+        more = [straight(6)] * chance.randint(0, 2)
+        return [MOST_ROOM, *number_list(*paths, *more)]
     parts = random_sheet(chance)
     listed = spoil(chance, sheet_numbers(*parts), strange_number, SPOILT_LISTS)
     return [random_room(chance, len(sheet_bytes(*parts))), *listed]

@@ -10,7 +10,8 @@ from model.constants import (DEGREE, FARTHEST, FINEST, HIGHEST, LEAST, LOWEST,
 from places import (COUNT, LISTED_COUNT, LISTED_LOWER, LISTED_UPPER, LOWER,
                     UPPER, listed_places, offset, put, record_places, swap)
 
-BENT = (FINEST, [point(-5, 7), point(-4, 9), point(100, -200), point(50, 60)])
+BENT = (FINEST, [point(-5, 7, 24), point(-4, 9, -30), point(100, -200, 8),
+                 point(50, 60, 400)])
 PAIR = [straight(1), BENT]
 
 ONE, ONE_LIST = sheet(straight(1)), number_list(straight(1))
@@ -32,11 +33,15 @@ def wraps(bits):
 
 SPOILT_SHEETS = {
     1: [put(TWO, (FIRST.x(0), FAR)), put(TWO, (SECOND.y(3), LOWEST - 1)),
-        put(TWO, (FIRST.x(1), GAP), (FIRST.y(2), -32_768))],
+        put(TWO, (FIRST.x(1), GAP), (FIRST.y(2), -32_768)),
+        put(TWO, (SECOND.width(0), FAR)),
+        put(TWO, (FIRST.y(1), GAP), (FIRST.width(3), LOWEST - 1))],
     2: [put(ONE, (ONLY.x(3), 2 + FARTHEST + 1)),
         put(TWO, (SECOND.y(0), 9 - FARTHEST - 1)),
-        sheet(jump(2, 2, FARTHEST + 1, 0)),
-        sheet(jump(2, 3, 0, -FARTHEST - 1)) + bytes(1)],
+        sheet(jump(2, 2, FARTHEST + 1)),
+        sheet(jump(2, 3, 0, -FARTHEST - 1)) + bytes(1),
+        put(TWO, (SECOND.width(0), -30 + FARTHEST + 1)),
+        sheet(jump(2, 5, 0, 0, -FARTHEST - 1))],
     3: [put(ONE, (ONLY.level, FINEST + 1)), put(TWO, (SECOND.level, 256)),
         put(TWO, (FIRST.level, 65_535))],
     4: [put(ONE, (UPPER, 0)), put(ONE, (UPPER, ONE_UNIT + 1)),
@@ -58,16 +63,20 @@ SPOILT_SHEETS = {
 SPOILT_LISTS = {
     1: [swap(ONE_LIST, (LISTED_ONLY.x(0), FAR)),
         swap(TWO_LIST, (LISTED_SECOND.y(3), LEAST)),
-        swap(ONE_LIST, (LISTED_ONLY.x(1), GAP), (LISTED_ONLY.y(3), 65_536))],
+        swap(ONE_LIST, (LISTED_ONLY.x(1), GAP), (LISTED_ONLY.y(3), 65_536)),
+        swap(TWO_LIST, (LISTED_FIRST.width(3), FAR)),
+        swap(TWO_LIST, (LISTED_SECOND.width(0), LOWEST - 1))],
     2: [swap(ONE_LIST, (LISTED_ONLY.x(3), 2 + FARTHEST + 1)),
         swap(TWO_LIST, (LISTED_SECOND.y(0), 9 - FARTHEST - 1)),
-        number_list(jump(2, 2, 0, FARTHEST + 1)) + [0]],
+        number_list(jump(2, 2, 0, FARTHEST + 1)) + [0],
+        swap(ONE_LIST, (LISTED_ONLY.width(0), FARTHEST + 1)),
+        number_list(jump(2, 2, 0, 0, -FARTHEST - 1))],
     3: [swap(ONE_LIST, (LISTED_ONLY.level, FINEST + 1)),
         swap(TWO_LIST, (LISTED_SECOND.level, -1)),
         swap(TWO_LIST, (LISTED_FIRST.level, MOST))],
     4: [[0, 0, 0], swap(ONE_LIST, (LISTED_UPPER, ONE_UNIT + 1)),
         swap(TWO_LIST, (LISTED_LOWER, -1))],
-    11: [number_list(*[straight(MOST_SEGMENTS)] * 42)],
+    11: [number_list(*[straight(1)] * MOST_PATHS)],
     12: [[MOST_PATHS + 1, 0, 0], [-1, *STANDARD_LIMITS],
          swap(ONE_LIST, (LISTED_COUNT, LEAST))],
     14: [swap(ONE_LIST, (LISTED_ONLY.segments, 0)),

@@ -20,8 +20,9 @@ from probe_model import answered, missing
 from probe_protocol import packed, request
 from probe_requests import limit_requests, make_requests
 from sheet_cases import make_cases
+from width_cases import CASES as WIDTHS
 
-EACH = 10               # requests of each outcome
+EACH = 8                # requests of each outcome
 SMALL = 5_000           # bytes of a request and its answer
 TRIED = 4_000           # requests that they are picked from
 LARGE = {("write", 11)}  # outcomes that no small request has
@@ -33,14 +34,14 @@ def joined(lines):
     return "".join(line + "\n" for line in lines).encode()
 
 
-# The probe: the document's cases, the boundaries, and a few requests of each
-# outcome
+# The probe: the document's cases, those of order 8, the boundaries, and a few
+# requests of each outcome
 
-def document_requests():
+def case_requests():
     requests = []
-    for letter, name, words, line in CASES:
+    for what, name, words, line in CASES + WIDTHS:
         requests.append(request(name, words))
-        assert answered(requests[-1])[0] == line, letter
+        assert answered(requests[-1])[0] == line, what
     return requests
 
 
@@ -71,7 +72,7 @@ def picked_requests():
 
 
 def probe_files():
-    requests = (document_requests() + boundary_requests() + limit_requests()
+    requests = (case_requests() + boundary_requests() + limit_requests()
                 + picked_requests())
     cut_off = requests[0][:-1]
     requests.append(cut_off)

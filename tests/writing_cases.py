@@ -64,20 +64,29 @@ def add_points(write):
     # 1: every place of a path; none is cut to 16 bits.
     for good, bad in [(HIGHEST, HIGHEST + 1), (LOWEST, LOWEST - 1),
                       (0, 65_536)]:
-        listed = number_list(straight(1, 0, (good, good), (0, 0)))
+        listed = number_list(straight(1, 0, (good, good, good), (0, 0)))
         write(0, listed)
         for place in LISTED_ONLY.numbers:
             write(1, swap(listed, (place, bad)))
     for bad in (65_536 + 5, -65_536, 32_767, 32_768, -32_768, -32_769,
                 MOST, LEAST, 2**24):
-        for place in (LISTED_FIRST.x(0), LISTED_FIRST.y(1), LISTED_FIRST.y(3),
-                      LISTED_SECOND.x(0), LISTED_SECOND.y(3)):
+        for place in (LISTED_FIRST.x(0), LISTED_FIRST.y(1),
+                      LISTED_FIRST.width(3), LISTED_SECOND.x(0),
+                      LISTED_SECOND.width(0), LISTED_SECOND.y(3)):
             write(1, swap(TWO_LIST, (place, bad)))
     # A gap beyond 32 bits is 1 as well.
     write(1, swap(ONE_LIST, (LISTED_ONLY.x(0), LEAST),
                   (LISTED_ONLY.x(1), MOST)))
     write(1, swap(ONE_LIST, (LISTED_ONLY.y(2), MOST),
                   (LISTED_ONLY.y(3), LEAST)))
+    write(1, swap(ONE_LIST, (LISTED_ONLY.width(1), LEAST),
+                  (LISTED_ONLY.width(2), MOST)))
+    # 2 by a width alone, of each pair of the path.
+    for k in range(4):
+        write(2, swap(ONE_LIST, (LISTED_ONLY.width(k), GAP)))
+        write(2, swap(ONE_LIST, (LISTED_ONLY.width(k), -GAP)))
+    # Numbers of points that have no width: too few of them.
+    write(17, [1, *STANDARD_LIMITS, 1, 0, 0, 0, 1, 0, 2, 0, 3, 0])
 
 
 # The order of refusals
@@ -107,6 +116,8 @@ def add_order(write):
     write(17, swap(ONE_LIST, (path.x(1), GAP))[:-1])
     # 1 over all points before 2.
     write(1, swap(ONE_LIST, (path.x(1), GAP), (path.y(3), LOWEST - 1)))
+    write(1, swap(ONE_LIST, (path.x(1), GAP), (path.width(3), FAR)))
+    write(1, swap(ONE_LIST, (path.width(1), GAP), (path.x(3), FAR)))
     # 1 and 2 before 17 for numbers left over, and before 9.
     write(1, swap(ONE_LIST, (path.y(3), FAR)) + [0])
     write(2, swap(ONE_LIST, (path.x(3), GAP)) + [0])

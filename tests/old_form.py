@@ -1,0 +1,86 @@
+"""Sheets of the old form, as document 01 has it: a point is x and y alone.
+
+A path is (level, points), and a point (x, y). With any path in it such a
+sheet is always refused: by its segments a record is longer than it is there.
+One path runs past the end, 15. With more of them points may be read that are
+none, 2; else offset 1 is wrong, 13, or the first record runs past the end.
+"""
+import random
+from struct import pack
+
+from chance import clamped, random_level, random_limits
+from model.constants import (DEGREE, FARTHEST, HIGHEST, LOWEST, MOST_SEGMENTS,
+                             STANDARD_LIMITS)
+from model.points import points_in
+
+REFUSALS = {2, 13, 15}
+
+
+def old_record(level, points):
+    segments = (len(points) - 1) // DEGREE
+    return (pack("<HH", segments, level)
+            + b"".join(pack("<hh", *point) for point in points))
+
+
+def old_sheet(upper, lower, paths):
+    records = [old_record(*path) for path in paths]
+    header = pack("<III", len(paths), upper, lower)
+    offset = len(header) + 4 * len(paths)
+    for record in records:
+        header += pack("<I", offset)
+        offset += len(record)
+    return header + b"".join(records)
+
+
+# By chance
+
+def old_path(chance):
+    """A walk that document 01 accepts."""
+    segments = chance.choice([1, 1, 2, 3, 5, MOST_SEGMENTS])
+    far = chance.choice([0, 1, 3, 100, FARTHEST])
+    end = chance.choice([10, 300, HIGHEST])
+    here = chance.randint(-end, end), chance.randint(-end, end)
+    points = []
+    for _ in range(points_in(segments)):
+        points.append(here)
+        here = tuple(clamped(value + chance.randint(-far, far), LOWEST,
+                             HIGHEST) for value in here)
+    return random_level(chance), points
+
+
+def random_old_sheets(seed, number):
+    """So many, each with the number of its paths, 1 and more."""
+    chance = random.Random(seed)
+    for _ in range(number):
+        count = chance.choice([1, 1, 2, 3, chance.randint(4, 12)])
+        paths = [old_path(chance) for _ in range(count)]
+        yield count, old_sheet(*random_limits(chance), paths)
+
+
+# By hand: (refusal, sheet)
+
+def still(segments, *place, level=0):
+    return level, [place] * points_in(segments)
+
+
+def standard(*paths):
+    return old_sheet(*STANDARD_LIMITS, paths)
+
+
+OLD_PAIR = standard(still(1, 0, 0), still(1, 0, 0))
+
+BY_HAND = [
+    # One path runs past the end, whatever its size and its points.
+    (15, standard(still(1, 0, 0))),
+    (15, standard(still(1, HIGHEST, LOWEST))),
+    (15, standard(still(2, 7, -7, level=11))),
+    (15, standard(still(MOST_SEGMENTS, 1, 1))),
+    # Offset 1 is where the old record ended.
+    (13, OLD_PAIR),
+    (13, standard(still(2, 9, -9), still(5, 9, 9), still(1, 0, 0))),
+    (13, standard(*[still(1, k, k) for k in range(12)])),
+    # The first record is longer than both were.
+    (15, standard(still(5, 0, 0), still(1, 0, 0))),
+    # x of one point is taken for the width of another, and for a y.
+    (2, standard(still(1, 700, 0), still(1, 0, 0))),
+]
