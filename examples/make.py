@@ -4,8 +4,9 @@
     python3 examples/make.py --check    compares them with those that are here
 
 A path is written as its start and then one row for each segment: two handles
-and the end. Where a curve goes on smoothly, the handle before a join, the join
-and the handle after it lie on one line. y grows downwards, as on a tablet.
+and the end, each x, y and the width of the lane there. Where a curve goes on
+smoothly, the handle before a join, the join and the handle after it lie on one
+line. y grows downwards, as on a tablet.
 """
 import sys
 from pathlib import Path
@@ -26,83 +27,87 @@ def path(level, start, *segments):
 
 
 # The word "la": the lines of the school's ruled paper are at y 0 (top of the
-# l), 24 (top of the a) and 48 (the base line).
+# l), 24 (top of the a) and 48 (the base line). The lane of each letter narrows
+# from 10 units to 2.
 
 L = path(
-    0, (0, 44),
-    ((10, 38), (24, 16), (24, 6)),          # up from the base line
-    ((24, 2), (22, 0), (19, 0)),            # over the top
-    ((14, 0), (12, 10), (12, 18)),          # down again
-    ((12, 30), (12, 48), (22, 48)),         # to the base line
-    ((30, 48), (38, 36), (44, 28)),         # and up towards the a
+    0, (0, 44, 10),
+    ((10, 38, 10), (24, 16, 9), (24, 6, 8)),        # up from the base line
+    ((24, 2, 8), (22, 0, 8), (19, 0, 7)),           # over the top
+    ((14, 0, 7), (12, 10, 6), (12, 18, 6)),         # down again
+    ((12, 30, 5), (12, 48, 5), (22, 48, 4)),        # to the base line
+    ((30, 48, 3), (38, 36, 3), (44, 28, 2)),        # and up towards the a
 )
 A = path(
-    0, (62, 28),
-    ((59, 25), (56, 24), (53, 24)),         # back over the top of the bowl
-    ((45, 24), (40, 30), (40, 37)),         # down its left side
-    ((40, 44), (44, 48), (49, 48)),         # round its bottom
-    ((57, 48), (62, 36), (62, 24)),         # up to the top on the right
-    ((62, 30), (62, 34), (62, 39)),         # the stem: back down
-    ((62, 45), (64, 48), (68, 48)),         # round at the base line
-    ((73, 48), (77, 45), (80, 41)),         # and away to the next letter
+    0, (62, 28, 10),
+    ((59, 25, 10), (56, 24, 9), (53, 24, 9)),       # back over the bowl
+    ((45, 24, 8), (40, 30, 8), (40, 37, 7)),        # down its left side
+    ((40, 44, 7), (44, 48, 6), (49, 48, 6)),        # round its bottom
+    ((57, 48, 5), (62, 36, 5), (62, 24, 4)),        # up to the top on the right
+    ((62, 30, 4), (62, 34, 4), (62, 39, 3)),        # the stem: back down
+    ((62, 45, 3), (64, 48, 3), (68, 48, 3)),        # round at the base line
+    ((73, 48, 2), (77, 45, 2), (80, 41, 2)),        # and away to the next
 )
 
 # A spiral of quarter circles with the radii 4, 8, 12 and so on to 32. A handle
-# is about 0.55 times as long as the radius.
+# is about 0.55 times as long as the radius. The lane narrows towards the
+# middle, where it starts.
 
 SPIRAL = path(
-    0, (4, 0),
-    ((4, 2), (2, 4), (0, 4)),
-    ((-4, 4), (-8, 0), (-8, -4)),
-    ((-8, -11), (-3, -16), (4, -16)),
-    ((13, -16), (20, -9), (20, 0)),
-    ((20, 11), (11, 20), (0, 20)),
-    ((-13, 20), (-24, 9), (-24, -4)),
-    ((-24, -19), (-11, -32), (4, -32)),
-    ((22, -32), (36, -18), (36, 0)),
+    0, (4, 0, 1),
+    ((4, 2, 1), (2, 4, 2), (0, 4, 2)),
+    ((-4, 4, 2), (-8, 0, 3), (-8, -4, 3)),
+    ((-8, -11, 3), (-3, -16, 4), (4, -16, 4)),
+    ((13, -16, 4), (20, -9, 5), (20, 0, 5)),
+    ((20, 11, 5), (11, 20, 6), (0, 20, 6)),
+    ((-13, 20, 6), (-24, 9, 7), (-24, -4, 7)),
+    ((-24, -19, 7), (-11, -32, 8), (4, -32, 8)),
+    ((22, -32, 8), (36, -18, 9), (36, 0, 9)),
 )
 
 # The first two control points are equal and the third is near: the curve sets
 # out very slowly. Its first steps are long in the parameter, later ones short.
 
 SLOW_START = path(
-    0, (0, 0),
-    ((0, 0), (10, 0), (48, 40)),
+    0, (0, 0, 12),
+    ((0, 0, 12), (10, 0, 8), (48, 40, 4)),
 )
 
-# Several paths of several segments, each with another start level.
+# Several paths of several segments, each with another start level and a lane
+# of its own: even, wide in one place, none where the eight crosses itself,
+# and one that ends in a point.
 
 WAVE = path(
-    0, (0, 20),
-    ((8, 0), (16, 0), (24, 20)),
-    ((32, 40), (40, 40), (48, 20)),
-    ((56, 0), (64, 0), (72, 20)),
+    0, (0, 20, 6),
+    ((8, 0, 6), (16, 0, 6), (24, 20, 6)),
+    ((32, 40, 6), (40, 40, 6), (48, 20, 6)),
+    ((56, 0, 6), (64, 0, 6), (72, 20, 6)),
 )
 HEART = path(
-    3, (36, 60),
-    ((36, 50), (20, 48), (18, 58)),
-    ((16, 68), (28, 76), (36, 86)),
-    ((44, 76), (56, 68), (54, 58)),
-    ((52, 48), (36, 50), (36, 60)),
+    3, (36, 60, 2),
+    ((36, 50, 2), (20, 48, 4), (18, 58, 5)),
+    ((16, 68, 6), (28, 76, 8), (36, 86, 8)),
+    ((44, 76, 8), (56, 68, 6), (54, 58, 5)),
+    ((52, 48, 4), (36, 50, 2), (36, 60, 2)),
 )
 EIGHT = path(
-    6, (84, 43),
-    ((74, 33), (74, 18), (84, 18)),
-    ((94, 18), (94, 33), (84, 43)),
-    ((74, 53), (74, 68), (84, 68)),
-    ((94, 68), (94, 53), (84, 43)),
+    6, (84, 43, 0),
+    ((74, 33, 4), (74, 18, 7), (84, 18, 7)),
+    ((94, 18, 7), (94, 33, 4), (84, 43, 0)),
+    ((74, 53, 4), (74, 68, 7), (84, 68, 7)),
+    ((94, 68, 7), (94, 53, 4), (84, 43, 0)),
 )
 CORNERS = path(
-    11, (0, 60),
-    ((4, 64), (8, 68), (12, 72)),
-    ((8, 76), (4, 80), (0, 84)),
+    11, (0, 60, 8),
+    ((4, 64, 7), (8, 68, 6), (12, 72, 4)),
+    ((8, 76, 3), (4, 80, 1), (0, 84, 0)),
 )
 
 # Refused 2: the first two control points are 683 apart in x.
 
 TOO_FAR = path(
-    0, (0, 0),
-    ((683, 0), (683, 0), (683, 0)),
+    0, (0, 0, 8),
+    ((683, 0, 8), (683, 0, 8), (683, 0, 8)),
 )
 
 SHEETS = {

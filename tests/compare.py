@@ -28,7 +28,7 @@ from tally import Tally
 
 BATCH = 1_000
 PROGRESS = 5_000        # requests from one line of progress to the next
-ENOUGH = 5_000          # requests of which no outcome may be missing
+ENOUGH = 10_000         # requests of which no outcome may be missing
 SHOWN = 5               # differences that are shown
 CUT = 400               # characters of each that are shown
 

@@ -11,7 +11,7 @@ from model.sheet import read_paths  # noqa: E402
 from svg import number  # noqa: E402
 
 WIDEST, HIGHEST = 900, 640          # the drawing's largest size on the screen
-NARROWEST = 560                     # room for the text
+NARROWEST = 600                     # room for the text
 LARGEST_SCALE = 40                  # screen units for a unit of the sheet
 LEFT, ABOVE, RIGHT, BELOW = 48, 74, 28, 30
 
@@ -55,12 +55,21 @@ def read_drawn(sheet, listing):
 
 # Their place on the screen
 
+def corners(drawn):
+    """Corners of what is shown: of each control point, and of the lane around each entry."""
+    for path in drawn:
+        yield from ((point.x, point.y) for point in path.points)
+        for entry in path.entries:
+            half = max(entry.width, 0) / 2
+            yield entry.x - half, entry.y - half
+            yield entry.x + half, entry.y + half
+
+
 class Frame:
     """The box of the sheet that is shown, and its scale."""
 
     def __init__(self, drawn):
-        shown = [place for path in drawn for place in path.points + path.entries]
-        xs, ys = zip(*([(place.x, place.y) for place in shown] or [(0, 0), (12, 6)]))
+        xs, ys = zip(*(list(corners(drawn)) or [(0, 0), (12, 6)]))
         span = max(max(xs) - min(xs), max(ys) - min(ys))
         edge = 1.5 + span // 16
         self.left, self.top = min(xs) - edge, min(ys) - edge

@@ -3,8 +3,8 @@
     python3 tools/picture.py SHEET LISTING > out.svg
 
 SHEET is a sheet file and LISTING what the program 'listing' printed for it.
-Curves and control points are drawn from the sheet, the points from the
-listing: no point is reckoned here. `./list --svg SHEET` calls this.
+Curves and control points are drawn from the sheet, the points and the lanes
+from the listing: no point is reckoned here. `./list --svg SHEET` calls this.
 
 The large group has the sheet's own coordinates: a pixel is a square of one
 unit with its centre at whole numbers. Text and labels have screen coordinates.
@@ -16,7 +16,8 @@ from pathlib import Path
 from xml.sax.saxutils import escape
 
 from frame import ABOVE, BELOW, Frame, between, read_drawn
-from svg import AXIS, CURVE, GRID, HANDLE, INK, PAPER, SCALE, SOFT, colour, line, number, text
+from lane import lane
+from svg import AXIS, CURVE, GRID, HANDLE, INK, LANE, PAPER, SCALE, SOFT, colour, line, number, text
 
 GRID_SCALE = 5                      # from here on the unit grid is drawn
 LEGEND, LINE = 40, 18
@@ -78,8 +79,14 @@ def curve(path):
 
 def dot(entry, radius, hint):
     shape = f'<circle cx="{entry.x}" cy="{entry.y}" r="{radius}"'
-    position, *point = entry
-    return f"{shape}><title>{position}: {', '.join(map(str, point))}</title></circle>" if hint else f"{shape}/>"
+    told = f"{entry.position}: {entry.x}, {entry.y}, width {entry.width}"
+    return f"{shape}><title>{told}</title></circle>" if hint else f"{shape}/>"
+
+
+def lanes(drawn, frame, every):
+    """The lanes of all paths, of one colour: where they cross they are one."""
+    shapes = [lane(path.entries[::every] + path.entries[-1:]) for path in drawn]
+    return [frame.group(), f'<g class="lanes" fill="{LANE}">', *filter(None, shapes), "</g></g>"]
 
 
 def dots(path, every, radius, hint):
@@ -128,7 +135,7 @@ def badges(drawn, frame):
 def drawing(drawn, frame, every):
     total = sum(len(path.entries) for path in drawn)
     radius = frame.units(frame.dot)
-    parts = ticks(frame) + [frame.group()] + grid(frame)
+    parts = lanes(drawn, frame, every) + ticks(frame) + [frame.group()] + grid(frame)
     parts += [f'<g stroke="{HANDLE}" stroke-width="{frame.units(1)}">'] + [polygon(path) for path in drawn] + ["</g>"]
     parts += [f'<g stroke="{CURVE}" stroke-width="{frame.units(2)}">'] + [curve(path) for path in drawn] + ["</g>"]
     for path in drawn:
@@ -164,9 +171,9 @@ def notes(drawn, every):
     return lines
 
 
-def legend(y):
-    """One row: what the lines and marks are, and the colours from start to end."""
-    return [
+def legend(y, has_lanes):
+    """One row: what the lines and marks are, the colours from start to end, and the lane where there is one."""
+    parts = [
         line(24, y - 4, 48, y - 4, f'stroke="{CURVE}" stroke-width="2"'),
         text(55, y, "exact curve", 12, SOFT),
         line(140, y - 4, 168, y - 4, f'stroke="{HANDLE}"'),
@@ -178,6 +185,10 @@ def legend(y):
         f'<rect x="404" y="{number(y - 9)}" width="96" height="9" rx="4.5" fill="url(#scale)"/>',
         text(506, y, "end", 12, colour(1)),
     ]
+    if has_lanes:
+        parts.append(f'<rect x="540" y="{number(y - 9)}" width="20" height="9" fill="{LANE}"/>')
+        parts.append(text(566, y, "lane", 12, SOFT))
+    return parts
 
 
 def definitions(frame):
@@ -208,7 +219,7 @@ def picture(drawn):
     parts += drawing(drawn, frame, every)
     for k, words in enumerate(lines):
         parts.append(text(24, frame.bottom + BELOW + LINE * k, words, 12, SOFT))
-    parts += legend(height - 22)
+    parts += legend(height - 22, any(entry.width > 0 for path in drawn for entry in path.entries))
     return "\n".join(parts + ["</svg>"]) + "\n"
 
 

@@ -2,12 +2,12 @@
 from xml.sax.saxutils import escape
 
 PAPER, INK, SOFT, GRID, AXIS = "#fdfdfb", "#22252b", "#6b7280", "#ececea", "#d6d6d2"
-CURVE, HANDLE = "#8b95a5", "#b4b8bf"
+CURVE, HANDLE, LANE = "#8b95a5", "#b4b8bf", "#dfe9f3"
 SCALE = [(38, 52, 160), (126, 34, 168), (204, 65, 112), (240, 138, 48)]
 
 
-def number(value):
-    digits = f"{value:.2f}".rstrip("0").rstrip(".")
+def number(value, places=2):
+    digits = f"{value:.{places}f}".rstrip("0").rstrip(".")
     return "0" if digits == "-0" else digits
 
 
