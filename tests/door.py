@@ -2,11 +2,11 @@
 
     python3 tests/door.py
 
-First the script of this repository, with the program that the kit builds: it
-is built where it is missing. Where a listing is not taken whole, the program
-is tried by itself too. Then a copy of the script with a kit that only
-pretends: its rt and its loader are small scripts, so that builds and programs
-can fail. The last line is 'N passed, N failed'.
+First the lanes of its pictures. Then the script of this repository, with the
+program that the kit builds: it is built where it is missing. Where a listing
+is not taken whole, the program is tried by itself too. Then a copy of the
+script with a kit that only pretends: its rt and its loader are small scripts,
+so that builds and programs can fail. The last line is 'N passed, N failed'.
 """
 import os
 import resource
@@ -19,20 +19,22 @@ from pathlib import Path
 from xml.dom import minidom
 
 from above import ROOT
-from document_cases import LISTING, SHEET
+from document_cases import LISTING, OLD_SHEET, SHEET
+from lane_cases import check_lanes
 from makers import sheet, zigzag
 from model.constants import MOST_SEGMENTS
 from model.listing import listing
+from old_form import OLD_PAIR
 from pretence import SCRIPT, Pretence, run
 from programs import program_command
 from spoilt import two_of_each
 from tally import Tally
 
 EXAMPLES = ROOT / "examples"
-ACCEPTED = ["document", "empty", "letters", "paths", "slow-start", "spiral"]
+ACCEPTED = {"document": 0, "empty": 0, "letters": 2, "paths": 4, "slow-start": 1, "spiral": 1}     # and their lanes
 INSTALLERS = "apt apt-get apk brew dnf pacman pip3 sudo yum zypper".split()
 DOCUMENT = LISTING.encode()
-LONG = sheet(zigzag(MOST_SEGMENTS, 0, 600, 0))      # its listing is too long for a pipe
+LONG = sheet(zigzag(MOST_SEGMENTS, 0, 600))         # its listing is too long for a pipe
 FRONT = 100_000                                     # bytes of it that a short file has room for
 
 
@@ -48,25 +50,33 @@ class Answers(Tally):
 
 # The script of this repository
 
-def dots_in(picture):
+def shapes_in(picture, groups, shape):
+    """The shapes of one kind in the groups of this name."""
     if not picture:
-        return 0
-    groups = minidom.parseString(picture).getElementsByTagName("g")
-    entries = [group for group in groups if group.getAttribute("class") == "entries"]
-    return sum(len(group.getElementsByTagName("circle")) for group in entries)
+        return []
+    named = [group for group in minidom.parseString(picture).getElementsByTagName("g") if group.getAttribute("class") == groups]
+    return [one for group in named for one in group.getElementsByTagName(shape)]
 
 
-def entries_in(text):
-    return sum(not row.startswith(b"path") for row in text.splitlines())
+def hints_in(picture):
+    """What the dots tell under the mouse."""
+    return [dot.getElementsByTagName("title")[0].firstChild.data for dot in shapes_in(picture, "entries", "circle")]
+
+
+def hints_of(text):
+    """The entries of a listing, as the dots tell them."""
+    rows = [row.split() for row in text.decode().splitlines() if not row.startswith("path")]
+    return [f"{position}: {x}, {y}, width {width}" for position, x, y, width in rows]
 
 
 def test_examples(tally):
-    for name in ACCEPTED:
+    for name, lanes in ACCEPTED.items():
         file = EXAMPLES / f"{name}.sheet"
         listed, drawn = run(SCRIPT, file), run(SCRIPT, "--svg", file)
         tally.answer(f"{name} listed", listed, 0, listing(file.read_bytes()).encode())
         tally.answer(f"{name} drawn", drawn, 0, drawn.stdout)
-        tally.equal(f"{name}: dots of entries", dots_in(drawn.stdout), entries_in(listed.stdout))
+        tally.equal(f"{name}: dots of entries", hints_in(drawn.stdout), hints_of(listed.stdout))
+        tally.equal(f"{name}: lanes", len(shapes_in(drawn.stdout, "lanes", "path")), lanes)
         tally.answer(f"{name} drawn twice", run(SCRIPT, "--svg", sheet=file.read_bytes()), 0, drawn.stdout)
 
 
@@ -83,7 +93,9 @@ def test_refusals(tally):
         tally.answer(f"refusal {refusal}", run(SCRIPT, sheet=data), 1, b"refused %d\n" % refusal, "the sheet was refused: ", said)
         tally.answer(f"refusal {refusal} drawn", run(SCRIPT, "--svg", sheet=data), 1, b"", said)
     refused = run(SCRIPT, EXAMPLES / "refused.sheet")
-    tally.answer("the refused example", refused, 1, b"refused 2\n", "682", "(refusal 2).")
+    tally.answer("the refused example", refused, 1, b"refused 2\n", "682 apart in x, in y or in width", "(refusal 2).")
+    for refusal, data in [(15, OLD_SHEET), (13, OLD_PAIR)]:
+        tally.answer("a sheet without widths", run(SCRIPT, sheet=data), 1, b"refused %d\n" % refusal, "has to be made anew")
 
 
 def test_names(tally, room):
@@ -256,6 +268,7 @@ def test_program(tally, room):
 
 def main():
     tally = Answers()
+    check_lanes(tally)
     run(SCRIPT, EXAMPLES / "empty.sheet")       # builds the program
     for test in [test_examples, test_document, test_refusals]:
         test(tally)

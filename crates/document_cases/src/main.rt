@@ -84,12 +84,13 @@ fn listing(name: &[u8], x: Control, level: u32) -> Drawn {
     drawn
 }
 
-// A width alone: its positions and its widths.
+// A width alone: its positions, its widths, and a length of 0.
 fn lane(name: &[u8], width: Control) {
     let mut list = [0i32; 64];
     let drawn = draw(flat(0), width, 0, &mut list);
     column(name, b" positions", &list, drawn.points, 0);
     column(name, b" width", &list, drawn.points, 3);
+    totals(name, drawn);
 }
 
 fn draw(x: Control, width: Control, level: u32, list: &mut [i32]) -> Drawn {
