@@ -11,12 +11,13 @@ from model.drawing import (chosen, coefficients, operate, registers_of,
 def check_start(tally):
     """Floors within each other give the same c as one floor of the sum."""
     chance = random.Random(10)
-    for _ in range(300):
+    for _ in range(100):
         points, level = random_points(chance, 4), random_level(chance)
-        A, B, C, _ = (65_536 * value
-                      for value in coefficients(*[x for x, *_ in points]))
-        tally.equal(f"c of {points}", started(points, level).x[2],
-                    C + ((B + (A >> level)) >> level))
+        drawing = started(points, level)
+        for values, registers in zip(zip(*points), registers_of(drawing)):
+            A, B, C, _ = (65_536 * value for value in coefficients(*values))
+            tally.equal(f"c of {values}", registers[2],
+                        C + ((B + (A >> level)) >> level))
 
 
 def exact(values, t):

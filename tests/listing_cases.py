@@ -12,7 +12,9 @@ from document_cases import OLD_SHEET, SHEET
 from makers import (LEVELS, LONGEST, LONGEST_SEGMENTS, MANY, on_width, point,
                     sheet, straight, zigzag)
 from model.constants import (DEGREE, FARTHEST, FINEST, HIGHEST, LOWEST,
-                             MOST_BYTES, MOST_SEGMENTS, ONE_UNIT)
+                             MOST_BYTES, MOST_SEGMENTS, ONE_UNIT,
+                             POINT_NUMBERS)
+from model.points import points_in
 from model.sheet import sheet_bytes
 from old_form import BY_HAND, OLD_PAIR
 from spoilt import BENT, SPOILT_SHEETS, two_of_each
@@ -37,11 +39,20 @@ def wave(segments, level, dx, height, widths=(0, 0)):
 
 # At the ends of what a sheet can be
 
+def longest_lines():
+    """A path of 64 segments: the last has 2,049 entries, and in most of them
+    every number is as long as it can be."""
+    start = point(*[LOWEST] * POINT_NUMBERS)
+    _, last = straight(1, 0, start, (FARTHEST, FARTHEST))
+    return 0, [start] * (points_in(MOST_SEGMENTS) - len(last)) + last
+
+
 def edge_sheets():
     spoilt = [data for sheets in SPOILT_SHEETS.values() for data in sheets]
     return [SHEET, OLD_SHEET, sheet(), LONGEST, LONGEST[:-1], FILLED, TOO_LONG,
             LONGEST + bytes(40_000 - len(LONGEST)), sheet(*MANY),
-            sheet(*MANY) + bytes(1), sheet(wave(MOST_SEGMENTS, 3, 5, 7)),
+            sheet(*MANY) + bytes(1), sheet(longest_lines()),
+            sheet(wave(MOST_SEGMENTS, 3, 5, 7)),
             sheet(zigzag(MOST_SEGMENTS, 0, FARTHEST, -FARTHEST, FARTHEST)),
             sheet_bytes(1, 0, [wave(MOST_SEGMENTS, FINEST, 6, 300, (5, 600))]),
             *spoilt, *[data for _, data in BY_HAND]]
@@ -77,7 +88,7 @@ def good_sheets():
         sheet_bytes(1, 1, []),
         sheet(straight(1, 5, (7, -7, 9), (0, 0)), zigzag(2, 0, 9, -4, 60),
               BENT),
-        # The width alone moves; it ends beyond what x and y are.
+        # The width alone moves.
         sheet((0, on_width(5, -3, 0, 682, 1_364, 2_046)),
               (3, on_width(0, 0, -15_000, -15_682, -16_364, -16_384))),
         sheet_bytes(40_000, 20_000, [wave(3, 1, 9, 12, (24, 8)), corner, BENT]),

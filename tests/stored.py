@@ -27,7 +27,7 @@ SMALL = 5_000           # bytes of a request and its answer
 TRIED = 4_000           # requests that they are picked from
 LARGE = {("write", 11)}  # outcomes that no small request has
 
-TO_THE_END = -1         # the size of a sheet that goes on to the end of the input
+TO_THE_END = -1         # the size of a sheet that the end of the input ends
 
 
 def joined(lines):
@@ -94,7 +94,7 @@ def listing_files():
 
 
 def listing_cases_files():
-    """Each sheet after its length, and last one that the end of the input ends."""
+    """Each sheet after its length, and last one that the input's end ends."""
     sheets = gate_sheets()
     stdin = b"".join(packed([len(data)]) + data for data in sheets)
     stdin += packed([TO_THE_END]) + TOO_LONG
