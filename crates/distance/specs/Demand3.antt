@@ -28,6 +28,7 @@ pub record Goes (F : ℕ) (d : Drawing) (upper lower : ℕ) : Type 0 where
 pub record Demand3 (F : ℕ) (p : Coordinate → Course) (d : Drawing) (along : ℕ) : Type 0 where
   pub parameter : d .q ≡ along
   pub inside : isDrawing F (d .level) (d .q) ≡ true
+  -- x, y and the width alike
   pub stands : (c : Coordinate) → Stands F (p c) (d .q) (of c d)
   -- any further call is refused as level and q say, and never 10, so that the new registers fit 32 bits
   pub call : (op : Operation) → called F op d ≡ moved (ruled F op (d .level) (d .q)) d (turned F op d)

@@ -91,10 +91,11 @@ choices =
     ∷ choosing 32768 32768 1 0 (pos 0) (pos 0) (pos 32769) step
     -- the width takes no part: it may be larger than upper, not smaller than lower, or larger than upper after doubling
     ∷ beside (pos 0) (pos 134219776) 65536 32768 1 0 (pos 0) (pos 65536) (pos 0) step
+    ∷ beside (pos 0) (negsuc 134219775) 65536 32768 1 0 (pos 0) (pos 65536) (pos 0) step
+    ∷ beside (pos 0) (pos 134219776) 65536 32768 1 0 (pos 0) (pos 131074) (pos 0) halve
     ∷ beside (pos 0) (pos 134219776) 65536 32768 1 0 (pos 0) (pos 0) (pos 0) double
     ∷ beside (pos 0) (pos 65536) 65536 32768 1 0 (pos 0) (pos 0) (pos 0) double
-    ∷ beside (pos 8) (pos 65535) 65536 32768 1 0 (pos 0) (pos 0) (pos 0) double
-    ∷ beside (pos 0) (pos 0) 65536 32768 1 0 (pos 0) (pos 131074) (pos 0) halve
+    ∷ beside (pos 2147483647) (pos 0) 65536 32768 1 0 (pos 0) (pos 0) (pos 0) double
     ∷ []
 
 abbrev pub Chooses : Choosing → Type 0
@@ -166,17 +167,27 @@ numbers =
     ∷ answer (of step 0 0 (registers (pos 0) (pos 0) (negsuc 0) (negsuc 2147483647)) zeros zeros) 10
     ∷ answer (of step 0 0 zeros (registers (pos 0) (pos 0) (pos 1) (pos 2147483646)) zeros) 0
     ∷ answer (of step 0 0 zeros (registers (pos 0) (pos 0) (pos 1) (pos 2147483647)) zeros) 10
+    ∷ answer (of halve 0 0 zeros zeros outside) 10
+    ∷ answer (of halve 11 0 zeros zeros outside) 6
+    ∷ answer (of step 0 0 zeros zeros (registers (pos 0) (pos 0) (negsuc 0) (negsuc 2147483646))) 0
+    ∷ answer (of step 0 0 zeros zeros (registers (pos 0) (pos 0) (negsuc 0) (negsuc 2147483647))) 10
     ∷ answer (of step 0 0 zeros zeros (registers (pos 0) (pos 0) (pos 1) (pos 2147483646))) 0
     ∷ answer (of step 0 0 zeros zeros (registers (pos 0) (pos 0) (pos 1) (pos 2147483647))) 10
-    -- a start: 1, then 2, then 3
+    ∷ answer (of double 1 0 zeros zeros (registers (pos 1073741823) (pos 0) (pos 0) (pos 0))) 0
+    ∷ answer (of double 1 0 zeros zeros (registers (pos 1073741824) (pos 0) (pos 0) (pos 0))) 10
+    -- a start: 1, then 2, then 3, by y and by the width
     ∷ answer (start (line (pos 16384) (pos 0) (pos 0) (pos 0)) still 12) 1
     ∷ answer (start (line (pos 683) (pos 0) (pos 0) (pos 0)) still 12) 2
     ∷ answer (start (line (pos 682) (pos 0) (pos 0) (pos 0)) still 12) 3
     ∷ answer (start (line (pos 682) (pos 0) (pos 0) (pos 0)) still 11) 0
-    ∷ answer (start still (line (pos 0) (pos 0) (pos 0) (pos 16384)) 12) 1
-    ∷ answer (start (line (pos 683) (pos 0) (pos 0) (pos 0)) (line (pos 16384) (pos 0) (pos 0) (pos 0)) 0) 1
-    ∷ answer (start still (line (pos 0) (pos 0) (pos 0) (pos 683)) 12) 2
-    ∷ answer (start still (line (pos 0) (pos 0) (pos 0) (pos 682)) 11) 0
+    ∷ answer (start still (line (pos 16384) (pos 16384) (pos 16384) (pos 16384)) 0) 1
+    ∷ answer (start still (line (negsuc 16384) (negsuc 16384) (negsuc 16384) (negsuc 16384)) 0) 1
+    ∷ answer (start (line (pos 683) (pos 0) (pos 0) (pos 0)) (line (pos 0) (pos 0) (pos 0) (pos 16384)) 12) 1
+    ∷ answer (start still (line (pos 683) (pos 0) (pos 0) (pos 0)) 12) 2
+    ∷ answer (start still (line (pos 0) (pos 0) (pos 0) (negsuc 682)) 0) 2
+    ∷ answer (start still (line (pos 682) (pos 0) (pos 0) (pos 0)) 12) 3
+    ∷ answer (start (line (pos 16383) (pos 16383) (pos 16383) (pos 16383)) (line (negsuc 16383) (negsuc 16383) (negsuc 16383) (negsuc 16383)) 11) 0
+    ∷ answer (start still (line (pos 682) (pos 0) (pos 682) (pos 0)) 11) 0
     -- choosing: 4, then 10, then 5
     ∷ answer (choiceRefusal 11 0 0 12 2048) 4
     ∷ answer (choiceRefusal 11 65537 0 0 2048) 4

@@ -1,4 +1,4 @@
--- A path's five arguments, and its points as numbers: x0, y0, x1, y1, .., of which segment k uses points 3k to 3k + 3.
+-- A path's five arguments, and its points as numbers: x0, y0, width0, x1, y1, width1, .., of which segment k uses points 3k to 3k + 3.
 use mathlib.Core.Path.{_≡_, refl, ap}
 use mathlib.Core.List.{List, _∷_}
 use Prim.Native.Nat.{ℕ, suc, _+_, _*_}

@@ -31,7 +31,7 @@ record Walked (F : ℕ) (p : Path) (k : ℕ) (d : Drawing) (ts : List Turn) : Ty
   points : shownBy F k ts ≡ map (shownAt F k) (afterSteps F (operations ts) d)
 
 module _ (F : ℕ) (p : Path) (k : ℕ) where
-  -- position 2^F·k + q, x of x and y of y
+  -- position 2^F·k + q, x of x, y of y and the width of the width
   entry-shown : (d : Drawing) → entry F k d ≡ shownAt F k d
   unfolding entry point
   entry-shown d = refl
