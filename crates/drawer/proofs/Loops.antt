@@ -31,7 +31,7 @@ use Rattle.path.specs.Path.{Path, pathRefusal, first}
 use Rattle.path.specs.Segment.{next, turns}
 use Rattle.path.specs.Entries.{entry, shown, shownBy, rest, following, entries}
 use Rattle.drawer.specs.Tally.{Ready, begun, added, addedAll, tally}
-use Rattle.path.proofs.Accepted.{accepted-lawful, segment-accepted}
+use Rattle.path.proofs.Accepted.{accepted-lawful, point-inside, segment-accepted}
 use Rattle.path.proofs.Segments.{Of, Sound, fits, of-inside, of-next}
 use Rattle.path.proofs.Turns.{by-test, next-falls, turns-end, turns-more}
 use Rattle.drawer.proofs.Due.{Due, due-here, due-then, due-by, due-shown, Few, few-most, few-more}
@@ -41,7 +41,7 @@ use Rattle.drawer.proofs.Due.{Due, due-here, due-then, due-by, due-show
 pub segment-ready : (p : Path) → pathRefusal finest p ≡ 0 → (k : ℕ) → k < p .segments → Ready (p .points) (p .level) k
 segment-ready p e k h =
     let l = accepted-lawful finest p e in
-    record { few = omega arith; inside = omega (arith, l .size); accepted = segment-accepted finest p e k h }
+    record { few = omega arith; inside = omega (arith, point-inside l 2 (degree * k + degree) (omega arith) (omega arith)); accepted = segment-accepted finest p e k h }
 
 -- ---- what choosing answered
 

@@ -122,10 +122,10 @@ agreed eq h none x t = tt
 agreed eq h (some y) x t = h x y t
 
 -- all of some tests
-abbrev all : List Bool → Bool
+abbrev pub all : List Bool → Bool
 all = every (λ (b : Bool). b)
 
-each : (ts : List Bool) → T (all ts) → All T ts
+pub each : (ts : List Bool) → T (all ts) → All T ts
 each ts t = tested T (λ (b : Bool). b) (λ (b : Bool) t. t) ts t
 
 -- the registers of a coordinate that stays 0

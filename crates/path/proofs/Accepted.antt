@@ -124,6 +124,9 @@ lawful-accepted F p l =
         let f : coordinates * (i / 3 + 1) + i % 3 ≡ coordinates + i = omega arith in
         le-leb _ reach (rw (e, f) at (l .near (i % 3) (i / 3) (omega arith) (omega arith)))
 
+pub point-inside : {F : ℕ} {p : Path} → Lawful F p → (c i : ℕ) → c < 3 → i ≤ 3 * p .segments → coordinates * i + c < length (p .points)
+point-inside l c i h k = omega arith
+
 place-inside : (c : Coordinate) → place c < coordinates
 place-inside in-x = omega arith
 place-inside in-y = omega arith

@@ -23,6 +23,10 @@ use Rattle.sheet.specs.Records.{recordAt, recordsAt, sheetAt}
 use Rattle.sheet.specs.PathRules.{pathRules}
 use Rattle.sheet.specs.Reading.{isOffset, bodyRefusal, recordRefusal, recordsRefusal, sheetRefusal}
 
+-- a sheet of one path of one segment: its limits, its start level and its points
+abbrev onePath : ℕ → ℕ → ℕ → List ℤ → Sheet
+onePath upper lower level points = record { upper = upper; lower = lower; paths = record { segments = 1; level = level; points = points } ∷ [] }
+
 -- ---- path A
 
 -- In hex: 01000000 00000100 00800000, the count and the limits; 10000000, the offset; 01000000, segments and level;
@@ -35,20 +39,9 @@ documentBytes =
     ∷ 0 ∷ 0 ∷ 0 ∷ 0 ∷ 0 ∷ 0 ∷ 1 ∷ 0 ∷ 0 ∷ 0 ∷ 0 ∷ 0 ∷ 2 ∷ 0 ∷ 0 ∷ 0 ∷ 0 ∷ 0 ∷ 3 ∷ 0 ∷ 0 ∷ 0 ∷ 0 ∷ 0
     ∷ []
 
--- one path of one segment from level 0, under the limits 65,536 and 32,768; x 0, 1, 2, 3, y and width 0 throughout
+-- from level 0, under the limits 65,536 and 32,768; x 0, 1, 2, 3, y and width 0 throughout
 abbrev pub pathA : Sheet
-pathA =
-    record {
-      upper = 65536;
-      lower = 32768;
-      paths =
-          record {
-            segments = 1;
-            level = 0;
-            points = pos 0 ∷ pos 0 ∷ pos 0 ∷ pos 1 ∷ pos 0 ∷ pos 0 ∷ pos 2 ∷ pos 0 ∷ pos 0 ∷ pos 3 ∷ pos 0 ∷ pos 0 ∷ [];
-          }
-          ∷ [];
-    }
+pathA = onePath 65536 32768 0 (pos 0 ∷ pos 0 ∷ pos 0 ∷ pos 1 ∷ pos 0 ∷ pos 0 ∷ pos 2 ∷ pos 0 ∷ pos 0 ∷ pos 3 ∷ pos 0 ∷ pos 0 ∷ [])
 
 abbrev pub documentNumbers : List ℤ
 documentNumbers =
@@ -67,20 +60,9 @@ laneBytes =
     ∷ 0 ∷ 0 ∷ 10 ∷ 0 ∷ 44 ∷ 1 ∷ 1 ∷ 0 ∷ 9 ∷ 0 ∷ 200 ∷ 0 ∷ 2 ∷ 0 ∷ 8 ∷ 0 ∷ 100 ∷ 0 ∷ 3 ∷ 0 ∷ 7 ∷ 0 ∷ 255 ∷ 255
     ∷ []
 
--- one path of one segment from level 3, under the limits 256 and 16; x 0, 1, 2, 3, y 10, 9, 8, 7 and width 300, 200, 100, −1
+-- from level 3, under the limits 256 and 16; x 0, 1, 2, 3, y 10, 9, 8, 7 and width 300, 200, 100, −1
 abbrev pub lane : Sheet
-lane =
-    record {
-      upper = 256;
-      lower = 16;
-      paths =
-          record {
-            segments = 1;
-            level = 3;
-            points = pos 0 ∷ pos 10 ∷ pos 300 ∷ pos 1 ∷ pos 9 ∷ pos 200 ∷ pos 2 ∷ pos 8 ∷ pos 100 ∷ pos 3 ∷ pos 7 ∷ negsuc 0 ∷ [];
-          }
-          ∷ [];
-    }
+lane = onePath 256 16 3 (pos 0 ∷ pos 10 ∷ pos 300 ∷ pos 1 ∷ pos 9 ∷ pos 200 ∷ pos 2 ∷ pos 8 ∷ pos 100 ∷ pos 3 ∷ pos 7 ∷ negsuc 0 ∷ [])
 
 abbrev pub laneNumbers : List ℤ
 laneNumbers =

@@ -160,28 +160,22 @@ tests w =
     ∷ []
 
 abbrev right : Row → Bool
-right w = every (λ (b : Bool). b) (tests w)
+right w = engine.all (tests w)
 
-each : (holds : Coordinate → Bool) → T (everyCoordinate holds) → (c : Coordinate) → T (holds c)
+each-coordinate : (holds : Coordinate → Bool) → T (everyCoordinate holds) → (c : Coordinate) → T (holds c)
 unfolding everyCoordinate
-each holds t =
-    let two = and-yes (holds in-x && holds in-y) (holds in-width) t in
-    let one = and-yes (holds in-x) (holds in-y) (two .0) in
-    λ c. by one two c
-  where
-    by : T (holds in-x) × T (holds in-y) → T (holds in-x && holds in-y) × T (holds in-width) → (c : Coordinate) → T (holds c)
-    by one two in-x = one .0
-    by one two in-y = one .1
-    by one two in-width = two .1
+each-coordinate holds t in-x = and-yes (holds in-x) (holds in-y) (and-yes (holds in-x && holds in-y) (holds in-width) t .0) .0
+each-coordinate holds t in-y = and-yes (holds in-x) (holds in-y) (and-yes (holds in-x && holds in-y) (holds in-width) t .0) .1
+each-coordinate holds t in-width = and-yes (holds in-x && holds in-y) (holds in-width) t .1
 
 right-listed : (w : Row) → T (right w) → Listed w
 right-listed w t =
     let a = answer w in
     let m = measured finest (pathOf w) in
-    let ts = tested T (λ (b : Bool). b) (λ (b : Bool) t. t) (tests w) t in
+    let ts = engine.each (tests w) t in
     let us = ts .1 .1 .1 .1 .1 in
     record {
-      paired = λ c. eqb→eq _ _ (each (λ c. eqb (length (w .shown c)) (length (w .positions))) (ts .0) c);
+      paired = λ c. eqb→eq _ _ (each-coordinate (λ c. eqb (length (w .shown c)) (length (w .positions))) (ts .0) c);
       refusal = eqb→eq (a .refusal) 0 (ts .1 .0);
       points = eqb→eq (a .points) (length (w .positions)) (ts .1 .1 .0);
       total = engine.agreed eqb eqb→eq (w .total) (a .length) (ts .1 .1 .1 .0);
