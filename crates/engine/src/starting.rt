@@ -77,14 +77,11 @@ pub(crate) fn nothing() -> Drawing
         c: 0,
         d: 0,
     };
-    let x = zeros;
-    let y = zeros;
-    let width = zeros;
     Drawing {
         level: 0,
         q: 0,
-        x: x,
-        y: y,
-        width: width,
+        x: zeros,
+        y: zeros,
+        width: zeros,
     }
 }
