@@ -24,7 +24,7 @@ from lane_cases import check_lanes
 from makers import sheet, zigzag
 from model.constants import MOST_SEGMENTS
 from model.listing import listing
-from old_form import OLD_PAIR
+from old_form import BY_HAND
 from pretence import SCRIPT, Pretence, run
 from programs import program_command
 from spoilt import two_of_each
@@ -94,7 +94,7 @@ def test_refusals(tally):
         tally.answer(f"refusal {refusal} drawn", run(SCRIPT, "--svg", sheet=data), 1, b"", said)
     refused = run(SCRIPT, EXAMPLES / "refused.sheet")
     tally.answer("the refused example", refused, 1, b"refused 2\n", "682 apart in x, in y or in width", "(refusal 2).")
-    for refusal, data in [(15, OLD_SHEET), (13, OLD_PAIR)]:
+    for refusal, data in [(15, OLD_SHEET), *BY_HAND]:
         tally.answer("a sheet without widths", run(SCRIPT, sheet=data), 1, b"refused %d\n" % refusal, "has to be made anew")
 
 
