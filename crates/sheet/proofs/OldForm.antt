@@ -1,21 +1,25 @@
 -- A sheet of the old form with any path in it is refused. Its header and its first record's place and segments read the same in both forms, but
 -- with a width for each point the record ends further on: not where the next offset says, and after a single path not where the sheet ends.
-use mathlib.Core.Path.{_≡_, refl, sym, _∙_}
-use mathlib.Core.Bool.{true}
+use mathlib.Core.Path.{_≡_, refl, sym, ap, ap₂, _∙_}
+use mathlib.Core.Bool.{Bool, true, _&&_}
 use mathlib.Core.List.{List, [], _∷_, map}
-use Prim.Native.Nat.{ℕ, _+_, _≤_, _<_}
+use Prim.Native.Nat.{ℕ, _+_, _*_, _≤_, _<_}
 use native.Mathlib.Omega.{arith}
 use lib.IntN.{pos}
-use lib.ListN.{length}
+use lib.ListN.{length, drop}
+use borrow.Author.Tests.{eqb-true, eq-eqb}
 use Rattle.numbers.specs.Tables.{All}
 use Rattle.numbers.proofs.Tables.{all-weaker}
+use Rattle.numbers.proofs.Tests.{and-true}
 use Rattle.rules.specs.Rules.{
   finest,
+  reach,
   isCoordinate,
   areNeighbours,
   isLevel,
   areLimits,
   isSegments,
+  isSize,
   pointNumbers,
   headRefusal,
   arePoints,
@@ -25,12 +29,12 @@ use Rattle.rules.specs.Rules.{
 }
 use Rattle.rules.proofs.Refusals.{first-kept}
 use Rattle.sheet.specs.Bytes.{valueBytes, valuesAt}
-use Rattle.sheet.specs.Sheet.{Target, Sheet, mostBytes, recordBytes, records, offsets, sheetBytes, Right}
+use Rattle.sheet.specs.Sheet.{Target, Sheet, mostBytes, recordBytes, records, offsets, sheetBytes, RightPath, Right}
 use Rattle.sheet.specs.Records.{recordAt, recordEnd}
 use Rattle.sheet.specs.PathRules.{pathRules}
 use Rattle.sheet.specs.Reading.{isOffset, bodyRefusal, recordRefusal, recordsRefusal, sheetRefusal, readRefusal}
 use Rattle.sheet.specs.Answer.{readAnswer}
-use Rattle.sheet.specs.OldForm.{Place, OldPath, OldSheet, placeNumbers, oldTarget, oldParts, oldBytes, OldSize, OldRightPath, OldRight}
+use Rattle.sheet.specs.OldForm.{Place, OldPath, OldSheet, placeNumbers, oldTarget, oldParts, oldBytes, withWidths, newTarget, OldSize, OldRightPath, OldRight}
 use Rattle.sheet.proofs.Sheets.{length-record, length-bytes}
 use Rattle.sheet.proofs.Room.{room-accepted}
 use Rattle.sheet.proofs.Reading.{records-stop, records-done, record-held, headed}
@@ -104,6 +108,56 @@ one-path-refused-15 upper lower p r =
     let size : 16 ≤ length b = omega (arith, length-bytes s) in
     sheet-refuses-by-records b (omega arith) (r .fits) (rw count (r .few)) (rw count size) (rw (limits .0, limits .1) (r .limits))
     ∙ rw count (records-stop b 1 0 16 (omega arith) (λ e. omega (arith, cut, e)) ∙ cut)
+
+-- ---- the rules of the old form are the new form's: a path is right exactly where it is right with widths 0
+
+places-length : (ps : List Place) → length (placeNumbers ps) ≡ 2 * length ps
+unfolding placeNumbers
+places-length [] = refl
+places-length (p ∷ ps) = omega (arith, places-length ps)
+
+widths-length : (ps : List Place) → length (withWidths ps) ≡ 3 * length ps
+unfolding withWidths
+widths-length [] = refl
+widths-length (p ∷ ps) = omega (arith, widths-length ps)
+
+sizes-agree : (S : ℕ) (ps : List Place)
+    → (length (placeNumbers ps) ≡ 2 * (3 * S + 1) → length (withWidths ps) ≡ pointNumbers S)
+    × (length (withWidths ps) ≡ pointNumbers S → length (placeNumbers ps) ≡ 2 * (3 * S + 1))
+sizes-agree S ps =
+    let old = places-length ps in
+    let new = widths-length ps in
+    (λ e. omega (arith, old, new, e), λ e. omega (arith, old, new, e))
+
+same-points : (ps : List Place) → arePoints (withWidths ps) ≡ arePoints (placeNumbers ps)
+unfolding withWidths placeNumbers arePoints isCoordinate
+same-points [] = refl
+same-points (p ∷ ps) = ap (λ (b : Bool). isCoordinate (p .x) && (isCoordinate (p .y) && b)) (same-points ps)
+
+same-chained : (ps : List Place) → areChained reach (withWidths ps) ≡ areBeside reach (placeNumbers ps) (drop 2 (placeNumbers ps))
+unfolding withWidths placeNumbers areChained areBeside areNeighbours
+same-chained [] = refl
+same-chained (p ∷ []) = refl
+same-chained (p ∷ q ∷ ps) = ap (λ (b : Bool). areNeighbours reach (p .x) (q .x) && (areNeighbours reach (p .y) (q .y) && b)) (same-chained (q ∷ ps))
+
+pub old-right-with-widths : (p : OldPath) → (OldRightPath p → RightPath (newTarget p)) × (RightPath (newTarget p) → OldRightPath p)
+unfolding newTarget isSize
+old-right-with-widths p = (
+  λ r. record {
+    size = ap₂ _&&_ (r .size .segments) (eq-eqb _ _ (sizes-agree (p .segments) (p .points) .0 (r .size .numbers)));
+    level = r .level;
+    points = same-points (p .points) ∙ r .points;
+    chained = same-chained (p .points) ∙ r .chained;
+  },
+  λ r.
+      let t = and-true (isSegments (p .segments)) _ (r .size) in
+      record {
+        size = record { segments = t .0; numbers = sizes-agree (p .segments) (p .points) .1 (eqb-true _ _ (t .1)) };
+        level = r .level;
+        points = sym (same-points (p .points)) ∙ r .points;
+        chained = sym (same-chained (p .points)) ∙ r .chained;
+      },
+)
 
 -- ---- no path: both forms are the same 12 bytes, and accepted
 

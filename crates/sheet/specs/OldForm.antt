@@ -4,7 +4,7 @@ use mathlib.Core.Path.{_≡_}
 use mathlib.Core.Bool.{true}
 use mathlib.Core.List.{List, [], _∷_, map}
 use Prim.Native.Nat.{ℕ, _+_, _*_, _≤_}
-use lib.IntN.{ℤ}
+use lib.IntN.{ℤ, pos}
 use lib.ListN.{length, drop}
 use Rattle.numbers.specs.Tables.{All}
 use Rattle.rules.specs.Rules.{finest, reach, isLevel, areLimits, isSegments, arePoints, areBeside}
@@ -42,6 +42,15 @@ oldParts s = record { upper = s .upper; lower = s .lower; paths = map oldTarget 
 -- header, offsets and records are made from these as in the new form: they do not know how many numbers a point has
 abbrev pub oldBytes : OldSheet → List ℕ
 oldBytes s = sheetBytes (oldParts s)
+
+-- ---- the same path in the new form, each of its widths 0
+
+unfoldable pub withWidths : List Place → List ℤ
+withWidths [] = []
+withWidths (p ∷ ps) = p .x ∷ p .y ∷ pos 0 ∷ withWidths ps
+
+unfoldable pub newTarget : OldPath → Target
+newTarget p = record { segments = p .segments; level = p .level; points = withWidths (p .points) }
 
 -- ---- right sheets of the old form
 
