@@ -2,12 +2,13 @@
 use mathlib.Core.Path.{_≡_, refl, sym, ap, ap₂, _∙_}
 use mathlib.Core.Bool.{Bool, true, false, _&&_, false≢true, true≢false}
 use mathlib.Core.List.{List, [], _∷_}
-use Prim.Native.Nat.{ℕ, suc, _<_}
-use native.Mathlib.Nat.{not-suc-le-zero, zero-add}
+use Prim.Native.Nat.{ℕ, zero, suc, _<_}
+use native.Mathlib.Nat.{not-suc-le-zero, zero-add, zero-lt-suc}
 use lib.Dec.{T, leb, eqb, eqb→eq, leb·suc-suc}
-use lib.IntN.{ℤ, pos, negsuc, natAbs, _-ℤ_}
+use lib.IntN.{ℤ, pos, negsuc, natAbs, negℤ, _-ℤ_, +ℤ-idl}
 use lib.Signed.{leZ, ltZ, nonNeg}
-use borrow.Author.Tests.{ltb-true, eq-eqb, ne-eqb}
+use borrow.Author.Needs.{zero≤}
+use borrow.Author.Tests.{ltb-true, le-leb, lt-leb, eq-eqb, ne-eqb}
 use mir.Facts.{and-yes}
 use Rattle.numbers.specs.Tests.{eqbℤ, eqbℤs}
 
@@ -28,13 +29,18 @@ and-four a b c d e =
     (two .0, two .1, two .2, three .1)
 
 -- from −m to m, as two comparisons
-pub within : (m : ℕ) (z : ℤ) → (leZ (negsuc m) z && leZ z (pos (suc m))) ≡ leb (natAbs z) (suc m)
-within m (pos a) = refl
-within m (negsuc a) = and-true-right (leb a m) ∙ sym (leb·suc-suc a m)
+pub within : (m : ℕ) (z : ℤ) → (leZ (pos 0 -ℤ pos m) z && leZ z (pos m)) ≡ leb (natAbs z) m
+within m z = ap (λ (low : ℤ). leZ low z && leZ z (pos m)) (+ℤ-idl (negℤ (pos m))) ∙ from-below m z
   where
     and-true-right : (b : Bool) → (b && true) ≡ b
     and-true-right true = refl
     and-true-right false = refl
+
+    from-below : (m : ℕ) (z : ℤ) → (leZ (negℤ (pos m)) z && leZ z (pos m)) ≡ leb (natAbs z) m
+    from-below zero (pos a) = ap (λ (b : Bool). b && leb a 0) (le-leb 0 a zero≤)
+    from-below zero (negsuc a) = sym (lt-leb (suc a) 0 (zero-lt-suc a))
+    from-below (suc m) (pos a) = refl
+    from-below (suc m) (negsuc a) = and-true-right (leb a m) ∙ sym (leb·suc-suc a m)
 
 -- below 0, and from 0 on
 pub below-zero : (z : ℤ) → ltZ z (pos 0) ≡ true → T (nonNeg (pos 0 -ℤ z)) × (natAbs (pos 0 -ℤ z) ≡ natAbs z)

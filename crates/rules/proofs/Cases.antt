@@ -1,4 +1,4 @@
--- The values at which document 01 draws its limits, inside and outside, as one statement over a table of them.
+-- The values at which the documents draw their limits, inside and outside, as one statement over a table of them.
 use mathlib.Core.Path.{_≡_, refl}
 use mathlib.Core.Bool.{Bool, true, false, not}
 use mathlib.Core.List.{List, [], _∷_}
@@ -7,25 +7,28 @@ use lib.Dec.{T}
 use lib.IntN.{ℤ, pos, negsuc}
 use Rattle.numbers.specs.Tables.{All}
 use Rattle.numbers.proofs.Tables.{tested}
-use Rattle.rules.specs.Rules.{finest, reach, isCoordinate, areNeighbours, isLevel, areLimits, isSegments, isSize, arePoints, areBeside, areChained}
+use Rattle.rules.specs.Rules.{isFinest, reach, isCoordinate, areNeighbours, isLevel, areLimits, isSegments, isSize, arePoints, areBeside, areChained}
 
+-- neighbours and levels at a finest level
 pub data Rule : Type 0 where
+  finest : ℕ → Rule
   coordinate : ℤ → Rule
-  neighbours : ℤ → ℤ → Rule
-  level : ℕ → Rule
+  neighbours : ℕ → ℤ → ℤ → Rule
+  level : ℕ → ℕ → Rule
   limits : ℕ → ℕ → Rule
   size : ℕ → ℕ → Rule
   points : List ℤ → Rule
   chained : List ℤ → Rule
 
 abbrev pub keeps : Rule → Bool
+keeps (finest F) = isFinest F
 keeps (coordinate p) = isCoordinate p
-keeps (neighbours p p') = areNeighbours reach p p'
-keeps (level n) = isLevel finest n
+keeps (neighbours F p p') = areNeighbours (reach F) p p'
+keeps (level F n) = isLevel F n
 keeps (limits upper lower) = areLimits upper lower
 keeps (size S numbers) = isSize S numbers
 keeps (points numbers) = arePoints numbers
-keeps (chained numbers) = areChained reach numbers
+keeps (chained numbers) = areChained (reach 11) numbers
 
 pub record Row : Type 0 where
   pub rule : Rule
@@ -42,20 +45,33 @@ no r = record { rule = r; kept = false }
 
 unfoldable pub table : List Row
 table =
+    -- finest levels 6 to 12
+    yes (finest 6)
+    ∷ no (finest 5)
+    ∷ yes (finest 12)
+    ∷ no (finest 13)
     -- each coordinate from −16,384 to 16,383
-    yes (coordinate (negsuc 16383))
+    ∷ yes (coordinate (negsuc 16383))
     ∷ no (coordinate (negsuc 16384))
     ∷ yes (coordinate (pos 16383))
     ∷ no (coordinate (pos 16384))
-    -- neighbours differ by at most 682
-    ∷ yes (neighbours (pos 0) (pos 682))
-    ∷ no (neighbours (pos 0) (pos 683))
-    ∷ yes (neighbours (pos 682) (pos 0))
-    ∷ no (neighbours (pos 683) (pos 0))
-    -- levels 0 to 11
-    ∷ yes (level 0)
-    ∷ yes (level 11)
-    ∷ no (level 12)
+    -- neighbours differ by at most 682, and at a coarser finest level by less
+    ∷ yes (neighbours 11 (pos 0) (pos 682))
+    ∷ no (neighbours 11 (pos 0) (pos 683))
+    ∷ yes (neighbours 11 (pos 682) (pos 0))
+    ∷ no (neighbours 11 (pos 683) (pos 0))
+    ∷ yes (neighbours 6 (pos 0) (pos 20))
+    ∷ no (neighbours 6 (pos 0) (pos 21))
+    ∷ yes (neighbours 12 (pos 682) (pos 0))
+    ∷ no (neighbours 12 (pos 683) (pos 0))
+    -- levels 0 to the finest
+    ∷ yes (level 11 0)
+    ∷ yes (level 11 11)
+    ∷ no (level 11 12)
+    ∷ yes (level 6 6)
+    ∷ no (level 6 7)
+    ∷ yes (level 12 12)
+    ∷ no (level 12 13)
     -- 1 ≤ upper ≤ 65,536 and 0 ≤ lower ≤ upper
     ∷ yes (limits 65536 32768)
     ∷ yes (limits 65536 65536)
@@ -101,5 +117,5 @@ abbrev right : Row → Bool
 right w = agree (keeps (w .rule)) (w .kept)
 
 pub cases : All Holds table
-unfolding table isCoordinate areNeighbours isLevel areLimits isSegments isSize arePoints areBeside areChained
+unfolding table isFinest reach isCoordinate areNeighbours isLevel areLimits isSegments isSize arePoints areBeside areChained
 cases = tested Holds right (λ w t. agreed (keeps (w .rule)) (w .kept) t) table tt

@@ -10,7 +10,7 @@ use borrow.Author.Tests.{leb-true, eqb-true, le-leb, eq-eqb}
 use Rattle.numbers.proofs.Order.{leZ-true, le-leZ}
 use Rattle.numbers.proofs.Size.{Size}
 use Rattle.numbers.proofs.Tests.{and-true, and-three}
-use Rattle.rules.specs.Rules.{isCoordinate, areNeighbours, areLimits, standardUpper, standardLower, mostSegments, isSegments, pointNumbers, isSize, natural}
+use Rattle.rules.specs.Rules.{isFinest, sheetFinest, isCoordinate, areNeighbours, areLimits, standardLimits, mostSegments, isSegments, pointNumbers, isSize, natural}
 
 pub coordinate-size : (p : ℤ) → isCoordinate p ≡ true → Size p 16384
 unfolding isCoordinate
@@ -27,6 +27,29 @@ pub range-coordinate : {p : ℤ} → negsuc 16383 ≤ℤ p → p ≤ℤ pos 1638
 unfolding isCoordinate
 range-coordinate h k = ap₂ _&&_ (le-leZ h) (le-leZ k)
 
+-- ---- finest levels
+
+-- from 6 to 12
+pub record Fine (F : ℕ) : Type 0 where
+  pub least : 6 ≤ F
+  pub most : F ≤ 12
+
+pub finest-holds : (F : ℕ) → isFinest F ≡ true → Fine F
+unfolding isFinest
+finest-holds F e =
+    let t = and-true (leb 6 F) (leb F 12) e in
+    record { least = leb-true 6 F (t .0); most = leb-true F 12 (t .1) }
+
+pub holds-finest : {F : ℕ} → Fine F → isFinest F ≡ true
+unfolding isFinest
+holds-finest {F} f = ap₂ _&&_ (le-leb 6 F (f .least)) (le-leb F 12 (f .most))
+
+-- a sheet's paths keep 11
+pub sheet-finest : sheetFinest ≡ 11
+sheet-finest = refl
+
+-- ---- neighbours
+
 pub neighbours-size : (W : ℕ) (p p' : ℤ) → areNeighbours W p p' ≡ true → Size (p' -ℤ p) W
 unfolding areNeighbours
 neighbours-size W p p' e = record { le = leb-true _ W e }
@@ -35,24 +58,24 @@ pub size-neighbours : (W : ℕ) (p p' : ℤ) → Size (p' -ℤ p) W → areNeigh
 unfolding areNeighbours
 size-neighbours W p p' s = le-leb _ W (s .le)
 
-pub record Limits (upper lower : ℕ) : Type 0 where
+pub record LawfulLimits (upper lower : ℕ) : Type 0 where
   pub least : 1 ≤ upper
   pub most : upper ≤ 65536
   pub order : lower ≤ upper
 
-pub limits-hold : (upper lower : ℕ) → areLimits upper lower ≡ true → Limits upper lower
+pub limits-hold : (upper lower : ℕ) → areLimits upper lower ≡ true → LawfulLimits upper lower
 unfolding areLimits
 limits-hold upper lower e =
     let t = and-three (leb 1 upper) (leb upper 65536) (leb lower upper) e in
     record { least = leb-true 1 upper (t .0); most = leb-true upper 65536 (t .1); order = leb-true lower upper (t .2) }
 
-pub hold-limits : {upper lower : ℕ} → Limits upper lower → areLimits upper lower ≡ true
+pub hold-limits : {upper lower : ℕ} → LawfulLimits upper lower → areLimits upper lower ≡ true
 unfolding areLimits
 hold-limits {upper} {lower} l =
     ap₂ _&&_ (ap₂ _&&_ (le-leb 1 upper (l .least)) (le-leb upper 65536 (l .most))) (le-leb lower upper (l .order))
 
 -- an entry without limits uses 65,536 and 32,768
-pub standard-limits : (standardUpper ≡ 65536) × (standardLower ≡ 32768)
+pub standard-limits : (standardLimits .upper ≡ 65536) × (standardLimits .lower ≡ 32768)
 standard-limits = (refl, refl)
 
 -- 1 to 64 segments, and 3(3S + 1) numbers

@@ -1,24 +1,32 @@
--- What document 01 accepts, by its refusal numbers 1 to 4 and 14.
+-- What document 01 accepts, by its refusal numbers 1 to 4, 14 and 24.
 use mathlib.Core.Bool.{Bool, true, _&&_}
 use mathlib.Core.List.{List, [], _∷_}
-use Prim.Native.Nat.{ℕ, _+_, _*_}
+use Prim.Native.Nat.{ℕ, _+_, _-_, _*_, _/_, _^_, min}
 use lib.Dec.{leb, eqb}
 use lib.IntN.{ℤ, pos, negsuc, natAbs, _-ℤ_}
 use lib.ListN.{drop}
 use lib.Signed.{leZ}
+use Rattle.rules.specs.declared.Limits.{Limits}
 use Rattle.rules.specs.Refusals.{unless}
 
--- the finest level
-abbrev pub finest : ℕ
-finest = 11
+-- 24: a finest level is from 6 to 12. At finest level F a position counts 2^F-ths of the parameter.
+unfoldable pub isFinest : ℕ → Bool
+isFinest F = leb 6 F && leb F 12
+
+-- that of a sheet's paths
+abbrev pub sheetFinest : ℕ
+sheetFinest = 11
 
 -- 1: a coordinate is from −16,384 to 16,383
 unfoldable pub isCoordinate : ℤ → Bool
 isCoordinate p = leZ (negsuc 16383) p && leZ p (pos 16383)
 
--- 2: neighbouring control points differ by at most W in a coordinate, of a cubic by at most 682
-abbrev pub reach : ℕ
-reach = 682
+-- 2: neighbouring control points differ by at most W in a coordinate: the smaller of 682 and the floor of (2^F − 2)/3
+abbrev pub mostReach : ℕ
+mostReach = 682
+
+unfoldable pub reach : ℕ → ℕ
+reach F = min mostReach ((2 ^ F - 2) / 3)
 
 unfoldable pub areNeighbours : ℕ → ℤ → ℤ → Bool
 areNeighbours W p p' = leb (natAbs (p' -ℤ p)) W
@@ -37,6 +45,9 @@ standardUpper = 65536
 
 abbrev pub standardLower : ℕ
 standardLower = 32768
+
+abbrev pub standardLimits : Limits
+standardLimits = record { upper = standardUpper; lower = standardLower }
 
 -- 14: a path has 1 to 64 segments, and 3S + 1 points of three coordinates: x, y and the width
 abbrev pub degree : ℕ

@@ -1,14 +1,17 @@
-// The rules that every room shares: refusals 1 to 4 and 14 of document 01, as tests of any numbers.
+// The rules that every room shares: refusals 1 to 4, 14 and 24, as tests of any numbers.
 ghost use mathlib.Core.Path.{_≡_};
-ghost use Rattle.rules.specs.Rules.{finest, reach, isCoordinate, areNeighbours, isLevel, areLimits, isSegments, pointNumbers, isSize, headRefusal, arePoints, areChained, pointsRefusal, natural};
+ghost use Rattle.rules.specs.Rules.{isFinest, reach, isCoordinate, areNeighbours, isLevel, areLimits, standardLimits, isSegments, pointNumbers, isSize, headRefusal, arePoints, areChained, pointsRefusal, natural};
 
-// The finest level: positions count 2^FINEST-ths of the parameter.
-pub const FINEST: u32 = 11;
+// The finest level of a sheet's paths.
+pub const SHEET_FINEST: u32 = 11;
+
+// Neighbours are at most this far apart, whatever the finest level is.
+const MOST_REACH: u32 = 682;
 
 // The limits of an entry without limits.
-pub const STANDARD_UPPER: u32 = 65536;
+const STANDARD_UPPER: u32 = 65536;
 
-pub const STANDARD_LOWER: u32 = 32768;
+const STANDARD_LOWER: u32 = 32768;
 
 // Segment k has the points from DEGREE * k to DEGREE * k + DEGREE, of so many numbers each.
 pub const DEGREE: usize = 3;
@@ -20,6 +23,37 @@ pub const MOST_SEGMENTS: u32 = 64;
 // The numbers of the points of MOST_SEGMENTS segments.
 pub const MOST_POINT_NUMBERS: usize = COORDINATES * (DEGREE * MOST_SEGMENTS as usize + 1);
 
+// The limits by which an operation is chosen, in 65,536ths of a unit.
+pub struct Limits {
+    pub upper: u32,
+    pub lower: u32,
+}
+
+impl Limits {
+    // 4 where it fails.
+    pub fn lawful(self) -> bool
+        ensures { λ r. ⌜ r ≡ areLimits (self .upper) (self .lower) ⌝ }
+    {
+        (1 <= self.upper) & (self.upper <= 65536) & (self.lower <= self.upper)
+    }
+
+    pub fn standard() -> Limits
+        ensures { λ r. ⌜ r ≡ standardLimits ⌝ }
+    {
+        Limits {
+            upper: STANDARD_UPPER,
+            lower: STANDARD_LOWER,
+        }
+    }
+}
+
+// 24 where it fails. At finest level f a position counts 2^f-ths of the parameter.
+pub fn finest(f: u32) -> bool
+    ensures { λ r. ⌜ r ≡ isFinest f ⌝ }
+{
+    (6 <= f) & (f <= 12)
+}
+
 // 1 where it fails.
 pub fn coordinate(p: i32) -> bool
     ensures { λ r. ⌜ r ≡ isCoordinate p ⌝ }
@@ -27,26 +61,33 @@ pub fn coordinate(p: i32) -> bool
     (-16384 <= p) & (p <= 16383)
 }
 
+// How far apart neighbours may be at finest level f, which may be any number.
+pub fn reach(f: u32) -> u32
+    ensures { λ r. ⌜ r ≡ reach f ⌝ }
+{
+    if f == 0 {
+        return 0;
+    }
+    if f > 11 {
+        return MOST_REACH;
+    }
+    ((1 << f) - 2) / 3
+}
+
 // 2 where it fails. Any two numbers may be asked: their difference is taken in 64 bits.
-pub fn neighbours(p: i32, q: i32) -> bool
+pub fn neighbours(reach: u32, p: i32, q: i32) -> bool
     ensures { λ r. ⌜ r ≡ areNeighbours reach p q ⌝ }
 {
     let apart = (q as i64) - (p as i64);
-    (-682 <= apart) & (apart <= 682)
+    let most = reach as i64;
+    (-most <= apart) & (apart <= most)
 }
 
 // 3 where it fails.
-pub fn level(n: u32) -> bool
+pub fn level(finest: u32, n: u32) -> bool
     ensures { λ r. ⌜ r ≡ isLevel finest n ⌝ }
 {
-    n <= FINEST
-}
-
-// 4 where it fails.
-pub fn limits(upper: u32, lower: u32) -> bool
-    ensures { λ r. ⌜ r ≡ areLimits upper lower ⌝ }
-{
-    (1 <= upper) & (upper <= 65536) & (lower <= upper)
+    n <= finest
 }
 
 // 14 where it fails.
@@ -74,13 +115,13 @@ pub fn size(count: u32, numbers: usize) -> bool
 }
 
 // The refusal by a path's segments, 14, and by its start level, 3; 0 for none.
-pub fn head_refusal(count: u32, n: u32) -> u32
+pub fn head_refusal(finest: u32, count: u32, n: u32) -> u32
     ensures { λ r. ⌜ r ≡ headRefusal finest count n ⌝ }
 {
     if !segments(count) {
         return 14;
     }
-    if !level(n) {
+    if !level(finest, n) {
         return 3;
     }
     0
@@ -101,13 +142,13 @@ pub fn points(numbers: &[i32]) -> bool
 }
 
 // 2 over a whole path's points where it fails: j is the same coordinate as i, of the next point.
-pub fn chained(numbers: &[i32]) -> bool
+pub fn chained(reach: u32, numbers: &[i32]) -> bool
     ensures { λ r. ⌜ r ≡ areChained reach (now (numbers .entry)) ⌝ }
 {
     let mut i: usize = 0;
     let mut j = COORDINATES;
     while j < numbers.len() {
-        if !neighbours(numbers[i], numbers[j]) {
+        if !neighbours(reach, numbers[i], numbers[j]) {
             return false;
         }
         i += 1;
@@ -117,13 +158,13 @@ pub fn chained(numbers: &[i32]) -> bool
 }
 
 // The refusal by a whole path's points: 1, then 2; 0 for none.
-pub fn points_refusal(numbers: &[i32]) -> u32
+pub fn points_refusal(reach: u32, numbers: &[i32]) -> u32
     ensures { λ r. ⌜ r ≡ pointsRefusal reach (now (numbers .entry)) ⌝ }
 {
     if !points(numbers) {
         return 1;
     }
-    if !chained(numbers) {
+    if !chained(reach, numbers) {
         return 2;
     }
     0

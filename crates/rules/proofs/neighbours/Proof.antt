@@ -1,10 +1,15 @@
--- The difference fits 64 bits, and its two comparisons are one of its magnitude.
-use mathlib.Core.Path.{ap, _∙_}
+-- The difference and the reach fit 64 bits, and the two comparisons are one of the difference's magnitude.
+use mathlib.Core.Path.{refl, _∙_}
 use mathlib.Core.Bool.{_&&_}
-use lib.IntN.{ℤ, pos, negsuc, _-ℤ_}
+use native.Mathlib.Omega.{arith}
+use lib.IntN.{pos, _-ℤ_}
 use lib.Signed.{leZ}
 use mir.Syntax.{w64}
-use Rattle.numbers.proofs.Machine.{Num, field, local, minus, fits, signed}
+use mir.Val.{toZ}
+use mir.Facts.{toZ-pos}
+use borrow.Author.Needs.{needs}
+use Rattle.numbers.proofs.Machine.{Num, field, literal, local, minus, fits, signed}
+use Rattle.numbers.proofs.Size.{size-of, size-by}
 use Rattle.numbers.proofs.Tests.{within}
 use Rattle.rules.specs.Rules.{areNeighbours}
 use Rattle.rules.proofs.neighbours.Statement.{statement}
@@ -22,10 +27,28 @@ apart c = minus (local w64 tt (field (c .fits .q))) (local w64 tt (field (c .fit
 sub-apart : tie.Need-sub-apart
 sub-apart c = fits tt (apart c)
 
+cast-most : tie.Need-cast-most
+cast-most c = search needs
+
+-- the reach, a number of 32 bits, as one of 64
+abbrev most : (c : tie.Start) → Num 4294967295 (pos (c .args .reach))
+most c =
+    record {
+      machine = toZ w64 (c .args .reach);
+      is = toZ-pos w64 {n = c .args .reach} (omega arith);
+      small = size-by refl (omega arith) (size-of (c .args .reach));
+    }
+
+sub-result : tie.Need-sub-result
+sub-result c = fits tt (minus (literal 0) (most c))
+
 returns : tie.Need-returns
 unfolding areNeighbours
 returns c =
-    ap (λ (z : ℤ). leZ (negsuc 681) z && leZ z (pos 682)) (local w64 tt (apart c) .is) ∙ within 681 (c .args .q -ℤ c .args .p)
+    let far = local w64 tt (apart c) .is in
+    (λ i. leZ (local w64 tt (minus (literal 0) (most c)) .is i) (far i) && leZ (far i) (most c .is i))
+    ∙ within (c .args .reach) (c .args .q -ℤ c .args .p)
 
 pub neighbours-spec : {M : Type 1} → statement M
-neighbours-spec = tie.close (tie.spec cast-apart cast-apart-2 sub-apart returns)
+neighbours-spec =
+    tie.close (tie.spec cast-apart cast-apart-2 sub-apart cast-most sub-result returns)
