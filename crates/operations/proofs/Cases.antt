@@ -1,4 +1,4 @@
--- Registers, levels and positions that a caller may make up, at the values where the rules draw their limits: what is chosen, and what is refused.
+-- Registers, finest levels, levels and positions that a caller may make up, at the values where the rules draw their limits: what is chosen, and what is refused.
 -- Two tables, a statement over each.
 use mathlib.Core.Path.{_≡_}
 use mathlib.Core.Bool.{Bool}
@@ -9,7 +9,7 @@ use lib.IntN.{ℤ, pos, negsuc}
 use Rattle.numbers.specs.Tables.{All}
 use Rattle.numbers.proofs.Tables.{tested}
 use Rattle.rules.specs.Refusals.{firstOf}
-use Rattle.rules.specs.Rules.{isCoordinate, areNeighbours, isLevel, areLimits}
+use Rattle.rules.specs.Rules.{isFinest, reach, isCoordinate, areNeighbours, isLevel, areLimits}
 use Rattle.coordinate.specs.declared.Registers.{Registers}
 use Rattle.coordinate.specs.declared.Control.{Control}
 use Rattle.coordinate.specs.Points.{areCoordinates, areNear}
@@ -26,7 +26,7 @@ registers a b c d = record { a = a; b = b; c = c; d = d }
 abbrev zeros : Registers
 zeros = registers (pos 0) (pos 0) (pos 0) (pos 0)
 
--- ---- choosing at F = 11
+-- ---- choosing
 
 abbrev code : Operation → ℕ
 code halve = 0
@@ -35,6 +35,7 @@ code step = 2
 
 -- x has b and c, y has c, the width has b and c; the other registers are 0
 pub record Choosing : Type 0 where
+  pub finest : ℕ
   pub upper : ℕ
   pub lower : ℕ
   pub level : ℕ
@@ -46,17 +47,25 @@ pub record Choosing : Type 0 where
   pub c-of-width : ℤ
   pub operation : Operation
 
+abbrev row : ℕ → ℤ → ℤ → ℕ → ℕ → ℕ → ℕ → ℤ → ℤ → ℤ → Operation → Choosing
+row F v w upper lower n q b c y op =
+    record { finest = F; upper = upper; lower = lower; level = n; q = q; b = b; c = c; c-of-y = y; b-of-width = v; c-of-width = w; operation = op }
+
+-- at F = 11
 abbrev beside : ℤ → ℤ → ℕ → ℕ → ℕ → ℕ → ℤ → ℤ → ℤ → Operation → Choosing
-beside v w upper lower n q b c y op =
-    record { upper = upper; lower = lower; level = n; q = q; b = b; c = c; c-of-y = y; b-of-width = v; c-of-width = w; operation = op }
+beside = row 11
 
 -- beside a width at rest
 abbrev choosing : ℕ → ℕ → ℕ → ℕ → ℤ → ℤ → ℤ → Operation → Choosing
 choosing = beside (pos 0) (pos 0)
 
+-- at F, x alone moving, under 65,536 and 32,768
+abbrev choosing-at : ℕ → ℕ → ℕ → ℤ → Operation → Choosing
+choosing-at F n q c op = row F (pos 0) (pos 0) 65536 32768 n q (pos 0) c (pos 0) op
+
 abbrev answered : Choosing → Operation
 answered w =
-    choose 11 (w .upper) (w .lower) (w .level) (w .q)
+    choose (w .finest) (w .upper) (w .lower) (w .level) (w .q)
     (pick
     (registers (pos 0) (w .b) (w .c) (pos 0))
     (registers (pos 0) (pos 0) (w .c-of-y) (pos 0))
@@ -96,6 +105,15 @@ choices =
     ∷ beside (pos 0) (pos 134219776) 65536 32768 1 0 (pos 0) (pos 0) (pos 0) double
     ∷ beside (pos 0) (pos 65536) 65536 32768 1 0 (pos 0) (pos 0) (pos 0) double
     ∷ beside (pos 2147483647) (pos 0) 65536 32768 1 0 (pos 0) (pos 0) (pos 0) double
+    -- at F = 6 and F = 12: halve below F alone, and q a multiple of 2s by F
+    ∷ choosing-at 6 5 0 (pos 8388608) halve
+    ∷ choosing-at 6 6 0 (pos 8388608) step
+    ∷ choosing-at 12 11 0 (pos 268435456) halve
+    ∷ choosing-at 12 12 0 (pos 1073741824) step
+    ∷ choosing-at 6 2 32 (pos 0) double
+    ∷ choosing-at 6 2 16 (pos 0) step
+    ∷ choosing-at 12 2 2048 (pos 0) double
+    ∷ choosing-at 12 2 1024 (pos 0) step
     ∷ []
 
 abbrev pub Chooses : Choosing → Type 0
@@ -108,7 +126,7 @@ pub chosen-as-listed : All Chooses choices
 unfolding choices choose wantsHalve wantsDouble increment doubledIncrement isAligned turn
 chosen-as-listed = tested Chooses chosen-so (λ w t. eqb→eq (code (answered w)) (code (w .operation)) t) choices tt
 
--- ---- levels, positions and refusals at F = 11
+-- ---- levels, positions and refusals
 
 -- the number answered, and the one that the document gives
 pub record Answer : Type 0 where
@@ -118,9 +136,17 @@ pub record Answer : Type 0 where
 abbrev answer : ℕ → ℕ → Answer
 answer answered number = record { answered = answered; number = number }
 
--- an operation at level n and position q, on the registers of x, y and the width
+-- an operation at finest level F, level n and position q, on the registers of x, y and the width
+abbrev at : ℕ → Operation → ℕ → ℕ → Registers → Registers → Registers → ℕ
+at F op n q x y width = firstOf (callRefusal F op n q) (registersRefusal (λ c. turn op n (pick x y width c)))
+
+-- at F = 11
 abbrev of : Operation → ℕ → ℕ → Registers → Registers → Registers → ℕ
-of op n q x y width = firstOf (callRefusal 11 op n q) (registersRefusal (λ c. turn op n (pick x y width c)))
+of = at 11
+
+-- all registers 0
+abbrev still-at : ℕ → Operation → ℕ → ℕ → ℕ
+still-at F op n q = at F op n q zeros zeros zeros
 
 -- a start, its points of y and of the width given
 abbrev line : ℤ → ℤ → ℤ → ℤ → Control
@@ -129,8 +155,11 @@ line p q r s = record { p0 = p; p1 = q; p2 = r; p3 = s }
 abbrev still : Control
 still = line (pos 0) (pos 0) (pos 0) (pos 0)
 
+abbrev start-at : ℕ → Control → Control → ℕ → ℕ
+start-at F y width n = startRefusal F (pick still y width) n
+
 abbrev start : Control → Control → ℕ → ℕ
-start y width n = startRefusal 11 (pick still y width) n
+start = start-at 11
 
 abbrev outside : Registers
 outside = registers (pos 2147483647) (negsuc 2147483647) (pos 0) (pos 0)
@@ -194,6 +223,45 @@ numbers =
     ∷ answer (choiceRefusal 11 65536 32768 12 2048) 10
     ∷ answer (choiceRefusal 11 65536 32768 0 2048) 5
     ∷ answer (choiceRefusal 11 65536 32768 0 0) 0
+    -- a step adds 2^(F−n) to q
+    ∷ answer (newPosition 6 step 2 16) 32
+    ∷ answer (newPosition 12 step 2 1024) 2048
+    -- 10 by F, also where every number is 0
+    ∷ answer (still-at 5 step 0 0) 10
+    ∷ answer (still-at 13 step 0 0) 10
+    ∷ answer (still-at 0 halve 0 0) 10
+    ∷ answer (still-at 0 double 0 0) 10
+    ∷ answer (still-at 0 step 0 0) 10
+    -- F = 6: 64 positions, levels 0 to 6
+    ∷ answer (still-at 6 step 0 64) 5
+    ∷ answer (still-at 6 step 6 63) 0
+    ∷ answer (still-at 6 step 6 65) 10
+    ∷ answer (still-at 6 step 7 0) 10
+    ∷ answer (still-at 6 halve 6 0) 6
+    ∷ answer (still-at 6 halve 5 0) 0
+    ∷ answer (still-at 6 double 1 32) 8
+    ∷ answer (start-at 6 (line (pos 20) (pos 0) (pos 0) (pos 0)) still 6) 0
+    ∷ answer (start-at 6 (line (pos 20) (pos 0) (pos 0) (pos 0)) still 7) 3
+    ∷ answer (start-at 6 (line (pos 21) (pos 0) (pos 0) (pos 0)) still 7) 2
+    ∷ answer (start-at 6 still (line (pos 0) (pos 0) (pos 0) (pos 21)) 0) 2
+    ∷ answer (start-at 6 (line (pos 16384) (pos 0) (pos 0) (pos 0)) still 7) 1
+    ∷ answer (choiceRefusal 6 65536 32768 0 64) 5
+    -- F = 12: 4,096 positions, levels 0 to 12
+    ∷ answer (still-at 12 step 0 4096) 5
+    ∷ answer (still-at 12 step 12 4095) 0
+    ∷ answer (still-at 12 step 13 0) 10
+    ∷ answer (still-at 12 halve 12 0) 6
+    ∷ answer (still-at 12 halve 11 0) 0
+    ∷ answer (still-at 12 double 1 2048) 8
+    ∷ answer (start-at 12 (line (pos 682) (pos 0) (pos 0) (pos 0)) still 12) 0
+    ∷ answer (start-at 12 (line (pos 682) (pos 0) (pos 0) (pos 0)) still 13) 3
+    ∷ answer (start-at 12 (line (pos 683) (pos 0) (pos 0) (pos 0)) still 13) 2
+    ∷ answer (choiceRefusal 12 65536 32768 0 4096) 5
+    -- 24 before 1; 4 before 10
+    ∷ answer (start-at 5 (line (pos 16384) (pos 0) (pos 0) (pos 0)) still 0) 24
+    ∷ answer (start-at 13 still still 0) 24
+    ∷ answer (choiceRefusal 5 0 0 0 0) 4
+    ∷ answer (choiceRefusal 5 65536 32768 0 0) 10
     ∷ []
 
 abbrev pub Answers : Answer → Type 0
@@ -203,6 +271,6 @@ abbrev answered-so : Answer → Bool
 answered-so w = eqb (w .answered) (w .number)
 
 pub answered-as-listed : All Answers numbers
-unfolding numbers startRefusal every areCoordinates areNear isCoordinate areNeighbours isLevel areLimits callRefusal gate isDrawing isAligned
+unfolding numbers startRefusal isFinest reach every areCoordinates areNear isCoordinate areNeighbours isLevel areLimits callRefusal gate isDrawing isAligned
     registersRefusal turn areRegisters choiceRefusal
 answered-as-listed = tested Answers answered-so (λ w t. eqb→eq (w .answered) (w .number) t) numbers tt

@@ -1,4 +1,4 @@
--- What it says of level and q that a call or choosing is not refused by them, and that nothing is cut off where specs/ subtract.
+-- What it says of F, level and q that a call or choosing is not refused by them, and that nothing is cut off where specs/ subtract.
 use mathlib.Core.Path.{_≡_, sym, ap, _∙_}
 use mathlib.Core.Bool.{true, _&&_}
 use Prim.Native.Nat.{ℕ, _+_, _-_, _*_, _%_, _^_, _≤_}
@@ -7,9 +7,10 @@ use native.Mathlib.Omega.{arith}
 use lib.Dec.{leb, ltb, eqb}
 use lib.Pow.{pow-add, pow-mono}
 use borrow.Author.Tests.{leb-true, ltb-true, eqb-true, le-leb, eq-eqb}
-use Rattle.numbers.proofs.Tests.{and-three}
+use Rattle.numbers.proofs.Tests.{and-four}
 use Rattle.rules.specs.Refusals.{unless}
-use Rattle.rules.specs.Rules.{areLimits}
+use Rattle.rules.specs.Rules.{isFinest, areLimits}
+use Rattle.rules.proofs.Laws.{finest-holds, holds-finest}
 use Rattle.rules.proofs.Refusals.{rule-kept, first-kept}
 use Rattle.coordinate.specs.Registers.{Operation, double}
 use Rattle.operations.specs.Position.{stride, isDrawing, isAligned}
@@ -19,16 +20,23 @@ use Rattle.operations.specs.Lawful.{Inside, Open}
 pub inside : (F n q : ℕ) → isDrawing F n q ≡ true → Inside F n q
 unfolding isDrawing
 inside F n q e =
-    let t = and-three (leb n F) (leb q (2 ^ F)) (eqb (q % stride F n) 0) e in
+    let t = and-four (isFinest F) (leb n F) (leb q (2 ^ F)) (eqb (q % stride F n) 0) e in
+    let f = finest-holds F (t .0) in
     record {
-      level = leb-true n F (t .0);
-      position = leb-true q (2 ^ F) (t .1);
-      whole = eqb-true (q % stride F n) 0 (t .2);
+      finest-least = f .least;
+      finest-most = f .most;
+      level = leb-true n F (t .1);
+      position = leb-true q (2 ^ F) (t .2);
+      whole = eqb-true (q % stride F n) 0 (t .3);
     }
 
 pub is-drawing : (F n q : ℕ) → Inside F n q → isDrawing F n q ≡ true
 unfolding isDrawing
-is-drawing F n q i = λ k. le-leb n F (i .level) k && le-leb q (2 ^ F) (i .position) k && eq-eqb (q % stride F n) 0 (i .whole) k
+is-drawing F n q i = λ k.
+    holds-finest {F = F} (record { least = i .finest-least; most = i .finest-most }) k
+    && le-leb n F (i .level) k
+    && le-leb q (2 ^ F) (i .position) k
+    && eq-eqb (q % stride F n) 0 (i .whole) k
 
 -- ---- a gate that lets through
 

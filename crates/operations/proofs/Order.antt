@@ -1,12 +1,12 @@
 -- The order of the refusals, each with its number: what is broken, and what is kept before it.
 use mathlib.Core.Path.{_≡_}
 use mathlib.Core.Bool.{true}
-use Prim.Native.Nat.{ℕ, _^_, _≤_, _<_}
+use Prim.Native.Nat.{ℕ, _-_, _/_, _^_, _≤_, _<_, min}
 use native.Mathlib.Omega.{arith}
 use lib.Dec.{leb}
 use borrow.Author.Tests.{leb-true, eqb-true, le-leb, lt-ltb, le-ltb, eq-eqb}
-use Rattle.rules.specs.Rules.{reach, isLevel, areLimits}
-use Rattle.rules.proofs.Laws.{Limits, limits-hold, hold-limits}
+use Rattle.rules.specs.Rules.{isFinest, reach, isLevel, areLimits}
+use Rattle.rules.proofs.Laws.{Fine, finest-holds, holds-finest, LawfulLimits, limits-hold, hold-limits}
 use Rattle.rules.proofs.Refusals.{broken}
 use Rattle.coordinate.specs.declared.Registers.{Registers}
 use Rattle.coordinate.specs.declared.Control.{Control}
@@ -21,7 +21,7 @@ use Rattle.operations.specs.Lawful.{Inside, Even}
 use Rattle.operations.proofs.Every.{every-true, true-every}
 use Rattle.operations.proofs.Gates.{inside, is-drawing}
 
--- ---- halve, double and step: 10 by level and q, 5, then 6, or 7 then 8
+-- ---- halve, double and step: 10 by F, level and q, 5, then 6, or 7 then 8
 
 module _ (F n q : ℕ) where
   -- whatever the operation
@@ -70,43 +70,60 @@ module _ (new : Coordinate → Registers) where
   unfolding registersRefusal
   registers-accepted h = rw (true-every (λ c. areRegisters (new c)) (λ c. within-registers (new c) (h c)))
 
--- ---- a start: 1 over all points of every coordinate, then 2, then 3
+-- ---- a start: 24, then 1 over all points of every coordinate, then 2, then 3
 
 module _ (F : ℕ) (p : Coordinate → Control) (n : ℕ) where
-  pub start-refuses-1 : (((c : Coordinate) → Each Lies (p c)) → ⊥) → startRefusal F p n ≡ 1
+  pub start-refuses-24 : (Fine F → ⊥) → startRefusal F p n ≡ 24
   unfolding startRefusal
-  start-refuses-1 h =
-      rw (broken (every (λ c. areCoordinates (p c))) (λ e. h (λ c. coordinates-lie (p c) (every-true (λ c. areCoordinates (p c)) e c))))
+  start-refuses-24 h = rw (broken (isFinest F) (λ e. h (finest-holds F e)))
 
-  module _ (points : (c : Coordinate) → Each Lies (p c)) where
-    all-lie : every (λ c. areCoordinates (p c)) ≡ true
-    all-lie = true-every (λ c. areCoordinates (p c)) (λ c. lying-coordinates (p c) (points c))
-
-    pub start-refuses-2 : (((c : Coordinate) → Reach 682 (p c)) → ⊥) → startRefusal F p n ≡ 2
+  module _ (fine : Fine F) where
+    pub start-refuses-1 : (((c : Coordinate) → Each Lies (p c)) → ⊥) → startRefusal F p n ≡ 1
     unfolding startRefusal
-    start-refuses-2 h =
-        rw (all-lie, broken (every (λ c. areNear reach (p c))) (λ e. h (λ c. reaches 682 (p c) (every-true (λ c. areNear reach (p c)) e c))))
+    start-refuses-1 h =
+        rw (
+          holds-finest fine,
+          broken (every (λ c. areCoordinates (p c))) (λ e. h (λ c. coordinates-lie (p c) (every-true (λ c. areCoordinates (p c)) e c))),
+        )
 
-    module _ (steps : (c : Coordinate) → Reach 682 (p c)) where
-      all-near : every (λ c. areNear reach (p c)) ≡ true
-      all-near = true-every (λ c. areNear reach (p c)) (λ c. reaching-near 682 (p c) (steps c))
+    module _ (points : (c : Coordinate) → Each Lies (p c)) where
+      all-lie : every (λ c. areCoordinates (p c)) ≡ true
+      all-lie = true-every (λ c. areCoordinates (p c)) (λ c. lying-coordinates (p c) (points c))
 
-      pub start-refuses-3 : F < n → startRefusal F p n ≡ 3
-      unfolding startRefusal isLevel
-      start-refuses-3 h = rw (all-lie, all-near, broken (leb n F) (λ e. omega (arith, leb-true n F e, h)))
+      -- the reach in the document's words: the smaller of 682 and the floor of (2^F − 2)/3
+      abbrev Near : Type 0
+      Near = (c : Coordinate) → Reach (min 682 ((2 ^ F - 2) / 3)) (p c)
 
-      pub start-accepted : n ≤ F → startRefusal F p n ≡ 0
-      unfolding startRefusal isLevel
-      start-accepted h = rw (all-lie, all-near, le-leb n F h)
+      pub start-refuses-2 : (Near → ⊥) → startRefusal F p n ≡ 2
+      unfolding startRefusal reach
+      start-refuses-2 h =
+          rw (
+            holds-finest fine,
+            all-lie,
+            broken (every (λ c. areNear (reach F) (p c))) (λ e. h (λ c. reaches (reach F) (p c) (every-true (λ c. areNear (reach F) (p c)) e c))),
+          )
 
--- ---- choosing: 4, 10 by level and q, 5
+      module _ (steps : Near) where
+        all-near : every (λ c. areNear (reach F) (p c)) ≡ true
+        unfolding reach
+        all-near = true-every (λ c. areNear (reach F) (p c)) (λ c. reaching-near (reach F) (p c) (steps c))
+
+        pub start-refuses-3 : F < n → startRefusal F p n ≡ 3
+        unfolding startRefusal isLevel
+        start-refuses-3 h = rw (holds-finest fine, all-lie, all-near, broken (leb n F) (λ e. omega (arith, leb-true n F e, h)))
+
+        pub start-accepted : n ≤ F → startRefusal F p n ≡ 0
+        unfolding startRefusal isLevel
+        start-accepted h = rw (holds-finest fine, all-lie, all-near, le-leb n F h)
+
+-- ---- choosing: 4, 10 by F, level and q, 5
 
 module _ (F upper lower n q : ℕ) where
-  pub choice-refuses-4 : (Limits upper lower → ⊥) → choiceRefusal F upper lower n q ≡ 4
+  pub choice-refuses-4 : (LawfulLimits upper lower → ⊥) → choiceRefusal F upper lower n q ≡ 4
   unfolding choiceRefusal
   choice-refuses-4 h = rw (broken (areLimits upper lower) (λ e. h (limits-hold upper lower e)))
 
-  module _ (l : Limits upper lower) where
+  module _ (l : LawfulLimits upper lower) where
     pub choice-refuses-10 : (Inside F n q → ⊥) → choiceRefusal F upper lower n q ≡ 10
     unfolding choiceRefusal gate
     choice-refuses-10 h = rw (hold-limits l, broken (isDrawing F n q) (λ e. h (inside F n q e)))

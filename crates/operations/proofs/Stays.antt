@@ -1,4 +1,4 @@
--- An accepted operation leads to a drawing again: level from 0 to F, q up to the end and a multiple of the new s. That is what
+-- An accepted operation leads to a drawing again, at the same F: level from 0 to F, q up to the end and a multiple of the new s. That is what
 -- refusals 5, 6, 7 and 8 are for.
 use mathlib.Core.Path.{_≡_, sym, ap, _∙_}
 use mathlib.Core.Bool.{true}
@@ -50,7 +50,14 @@ stays F halve n q e =
     let s = stride F (n + 1) in
     let w : q ≡ q / stride F n * 2 * s =
     multiple q (stride F n) (c .0 .inside .whole) ∙ ap (λ (t : ℕ). q / stride F n * t) (two-finer F n h) ∙ sym (mul-assoc (q / stride F n) 2 s) in
-    is-drawing F (n + 1) q (record { level = omega arith; position = c .0 .inside .position; whole = remainder q (q / stride F n * 2) s w })
+    is-drawing F (n + 1) q
+    (record {
+      finest-least = c .0 .inside .finest-least;
+      finest-most = c .0 .inside .finest-most;
+      level = omega arith;
+      position = c .0 .inside .position;
+      whole = remainder q (q / stride F n * 2) s w;
+    })
 stays F double n q e =
     let c = call-opens F double n q e in
     let f = rule-kept (ltb 0 n) 6 (unless (isAligned F n q) 8 0) (c .1) in
@@ -58,6 +65,8 @@ stays F double n q e =
     let even = eqb-true (q % (2 * stride F n)) 0 (rule-kept (isAligned F n q) 7 0 (f .1) .0) in
     is-drawing F (n - 1) q
     (record {
+      finest-least = c .0 .inside .finest-least;
+      finest-most = c .0 .inside .finest-most;
       level = omega (arith, c .0 .inside .level);
       position = c .0 .inside .position;
       whole = ap (λ (t : ℕ). q % t) (one-coarser F n h (c .0 .inside .level)) ∙ even;
@@ -66,7 +75,14 @@ stays F step n q e =
     let o = call-opens F step n q e .0 in
     let s = stride F n in
     let w : q + s ≡ (q / s + 1) * s = ap (λ (t : ℕ). t + s) (multiple q s (o .inside .whole)) ∙ one-more (q / s) s in
-    is-drawing F n (q + s) (record { level = o .inside .level; position = step-within F n q o; whole = remainder (q + s) (q / s + 1) s w })
+    is-drawing F n (q + s)
+    (record {
+      finest-least = o .inside .finest-least;
+      finest-most = o .inside .finest-most;
+      level = o .inside .level;
+      position = step-within F n q o;
+      whole = remainder (q + s) (q / s + 1) s w;
+    })
   where
     one-more : (m s : ℕ) → m * s + s ≡ (m + 1) * s
     one-more m s = omega arith

@@ -5,7 +5,7 @@ use Prim.Native.Nat.{ℕ, _^_}
 use lib.Dec.{ltb}
 use Rattle.numbers.specs.Tables.{All}
 use Rattle.rules.specs.Refusals.{Among, firstOf}
-use Rattle.rules.specs.Rules.{reach, areLimits, isLevel}
+use Rattle.rules.specs.Rules.{isFinest, reach, areLimits, isLevel}
 use Rattle.rules.proofs.Refusals.{line-among, among, first-among, untabled}
 use Rattle.coordinate.specs.declared.Registers.{Registers}
 use Rattle.coordinate.specs.declared.Control.{Control}
@@ -53,9 +53,9 @@ call-among F op n q new =
 
 -- halve is never refused by double's numbers, nor double by halve's, nor step by either's
 abbrev others : Operation → List ℕ
-others halve = 1 ∷ 2 ∷ 3 ∷ 4 ∷ 7 ∷ 8 ∷ 9 ∷ []
-others double = 1 ∷ 2 ∷ 3 ∷ 4 ∷ 6 ∷ 9 ∷ []
-others step = 1 ∷ 2 ∷ 3 ∷ 4 ∷ 6 ∷ 7 ∷ 8 ∷ 9 ∷ []
+others halve = 1 ∷ 2 ∷ 3 ∷ 4 ∷ 7 ∷ 8 ∷ 9 ∷ 24 ∷ []
+others double = 1 ∷ 2 ∷ 3 ∷ 4 ∷ 6 ∷ 9 ∷ 24 ∷ []
+others step = 1 ∷ 2 ∷ 3 ∷ 4 ∷ 6 ∷ 7 ∷ 8 ∷ 9 ∷ 24 ∷ []
 
 pub call-nothing-else : (F : ℕ) (op : Operation) (n q : ℕ) (new : Coordinate → Registers)
     → All (λ k. firstOf (callRefusal F op n q) (registersRefusal new) ≡ k → ⊥) (others op)
@@ -69,8 +69,9 @@ module _ (F : ℕ) (p : Coordinate → Control) (n : ℕ) where
   pub start-among : Among (startRefusal F p n) startTable
   unfolding startRefusal
   start-among =
-      line-among (every (λ c. areCoordinates (p c))) (among tt)
-      (line-among (every (λ c. areNear reach (p c))) (among tt) (line-among (isLevel F n) (among tt) (among tt)))
+      line-among (isFinest F) (among tt)
+      (line-among (every (λ c. areCoordinates (p c))) (among tt)
+      (line-among (every (λ c. areNear (reach F) (p c))) (among tt) (line-among (isLevel F n) (among tt) (among tt))))
 
   pub start-nothing-else : All (λ k. startRefusal F p n ≡ k → ⊥) (4 ∷ 5 ∷ 6 ∷ 7 ∷ 8 ∷ 9 ∷ 10 ∷ [])
   start-nothing-else = untabled startTable (4 ∷ 5 ∷ 6 ∷ 7 ∷ 8 ∷ 9 ∷ 10 ∷ []) start-among tt
@@ -84,13 +85,13 @@ module _ (F n q : ℕ) where
       line-among (areLimits upper lower) (among tt)
       (line-among (isDrawing F n q) (among tt) (line-among (ltb q (2 ^ F)) (among tt) (among tt)))
 
-  pub choice-nothing-else : (upper lower : ℕ) → All (λ k. choiceRefusal F upper lower n q ≡ k → ⊥) (1 ∷ 2 ∷ 3 ∷ 6 ∷ 7 ∷ 8 ∷ 9 ∷ [])
-  choice-nothing-else upper lower = untabled choiceTable (1 ∷ 2 ∷ 3 ∷ 6 ∷ 7 ∷ 8 ∷ 9 ∷ []) (choice-among upper lower) tt
+  pub choice-nothing-else : (upper lower : ℕ) → All (λ k. choiceRefusal F upper lower n q ≡ k → ⊥) (1 ∷ 2 ∷ 3 ∷ 6 ∷ 7 ∷ 8 ∷ 9 ∷ 24 ∷ [])
+  choice-nothing-else upper lower = untabled choiceTable (1 ∷ 2 ∷ 3 ∷ 6 ∷ 7 ∷ 8 ∷ 9 ∷ 24 ∷ []) (choice-among upper lower) tt
 
   -- under the standard limits, 65,536 and 32,768, without 4
   pub standard-among : Among (choiceRefusal F 65536 32768 n q) standardTable
   unfolding choiceRefusal gate areLimits
   standard-among = line-among (isDrawing F n q) (among tt) (line-among (ltb q (2 ^ F)) (among tt) (among tt))
 
-  pub standard-nothing-else : All (λ k. choiceRefusal F 65536 32768 n q ≡ k → ⊥) (1 ∷ 2 ∷ 3 ∷ 4 ∷ 6 ∷ 7 ∷ 8 ∷ 9 ∷ [])
-  standard-nothing-else = untabled standardTable (1 ∷ 2 ∷ 3 ∷ 4 ∷ 6 ∷ 7 ∷ 8 ∷ 9 ∷ []) standard-among tt
+  pub standard-nothing-else : All (λ k. choiceRefusal F 65536 32768 n q ≡ k → ⊥) (1 ∷ 2 ∷ 3 ∷ 4 ∷ 6 ∷ 7 ∷ 8 ∷ 9 ∷ 24 ∷ [])
+  standard-nothing-else = untabled standardTable (1 ∷ 2 ∷ 3 ∷ 4 ∷ 6 ∷ 7 ∷ 8 ∷ 9 ∷ 24 ∷ []) standard-among tt

@@ -1,10 +1,12 @@
--- What the refusals look at in level n and position q, said of the numbers. What they look at in control points and registers is in
+-- What the refusals look at in finest level F, level n and position q, said of the numbers. What they look at in control points and registers is in
 -- coordinate/proofs (`Lies`, `Reach`, `AllWithin`), and in limits in rules/proofs (`Limits`).
 use mathlib.Core.Path.{_≡_}
 use Prim.Native.Nat.{ℕ, _-_, _*_, _%_, _^_, _≤_, _<_}
 
--- 10 by level and q is not: level from 0 to F, q from 0 to 2^F and a multiple of s = 2^(F−n)
+-- 10 by F, level and q is not: F from 6 to 12, level from 0 to F, q from 0 to 2^F and a multiple of s = 2^(F−n)
 pub record Inside (F n q : ℕ) : Type 0 where
+  pub finest-least : 6 ≤ F
+  pub finest-most : F ≤ 12
   pub level : n ≤ F
   pub position : q ≤ 2 ^ F
   pub whole : q % 2 ^ (F - n) ≡ 0

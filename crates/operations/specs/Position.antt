@@ -1,16 +1,17 @@
--- Level n and position q of a drawing: q counts 2^F-ths of the parameter, F is the finest level.
+-- Finest level F, level n and position q of a drawing: q counts 2^F-ths of the parameter.
 use mathlib.Core.Bool.{Bool, _&&_}
 use Prim.Native.Nat.{ℕ, _+_, _-_, _*_, _%_, _^_}
 use lib.Dec.{leb, eqb}
+use Rattle.rules.specs.Rules.{isFinest}
 use Rattle.coordinate.specs.Registers.{Operation, halve, double, step}
 
 -- s: what one step at level n adds to q. A drawing ends at q = 2^F.
 abbrev pub stride : ℕ → ℕ → ℕ
 stride F n = 2 ^ (F - n)
 
--- level from 0 to F, q from 0 to 2^F and a multiple of s
+-- F from 6 to 12, level from 0 to F, q from 0 to 2^F and a multiple of s
 unfoldable pub isDrawing : ℕ → ℕ → ℕ → Bool
-isDrawing F n q = leb n F && leb q (2 ^ F) && eqb (q % stride F n) 0
+isDrawing F n q = isFinest F && leb n F && leb q (2 ^ F) && eqb (q % stride F n) 0
 
 -- q is a multiple of 2s
 unfoldable pub isAligned : ℕ → ℕ → ℕ → Bool

@@ -4,7 +4,7 @@ use mathlib.Core.List.{List, [], _∷_}
 use Prim.Native.Nat.{ℕ, _^_}
 use lib.Dec.{ltb}
 use Rattle.rules.specs.Refusals.{unless, firstOf}
-use Rattle.rules.specs.Rules.{reach, isLevel, areLimits}
+use Rattle.rules.specs.Rules.{isFinest, reach, isLevel, areLimits}
 use Rattle.coordinate.specs.declared.Registers.{Registers}
 use Rattle.coordinate.specs.declared.Control.{Control}
 use Rattle.coordinate.specs.Points.{areCoordinates, areNear}
@@ -12,20 +12,21 @@ use Rattle.coordinate.specs.Registers.{Operation, halve, double, step, areRegis
 use Rattle.operations.specs.Coordinates.{Coordinate, every}
 use Rattle.operations.specs.Position.{isDrawing, isAligned}
 
--- ---- a start: 1 over all points of every coordinate, then 2, then 3
+-- ---- a start: 24, then 1 over all points of every coordinate, then 2 by the reach at F, then 3
 
 unfoldable pub startRefusal : ℕ → (Coordinate → Control) → ℕ → ℕ
 startRefusal F p n =
-    unless (every (λ c. areCoordinates (p c))) 1
-    (unless (every (λ c. areNear reach (p c))) 2
-    (unless (isLevel F n) 3 0))
+    unless (isFinest F) 24
+    (unless (every (λ c. areCoordinates (p c))) 1
+    (unless (every (λ c. areNear (reach F) (p c))) 2
+    (unless (isLevel F n) 3 0)))
 
 abbrev pub startTable : List ℕ
-startTable = 0 ∷ 1 ∷ 2 ∷ 3 ∷ []
+startTable = 0 ∷ 1 ∷ 2 ∷ 3 ∷ 24 ∷ []
 
 -- ---- halve, double and step
 
--- 10 by level and q, then 5 at the end of the drawing
+-- 10 by F, level and q, then 5 at the end of the drawing
 unfoldable pub gate : ℕ → ℕ → ℕ → ℕ
 gate F n q = unless (isDrawing F n q) 10 (unless (ltb q (2 ^ F)) 5 0)
 
@@ -48,7 +49,7 @@ callTable halve = 0 ∷ 5 ∷ 6 ∷ 10 ∷ []
 callTable double = 0 ∷ 5 ∷ 7 ∷ 8 ∷ 10 ∷ []
 callTable step = 0 ∷ 5 ∷ 10 ∷ []
 
--- ---- choosing: 4, 10 by level and q, 5
+-- ---- choosing: 4, 10 by F, level and q, 5
 
 unfoldable pub choiceRefusal : ℕ → ℕ → ℕ → ℕ → ℕ → ℕ
 choiceRefusal F upper lower n q = unless (areLimits upper lower) 4 (gate F n q)
