@@ -1,10 +1,10 @@
 -- What rules 1 and 2 say of one coordinate's control points: how far they are from 0, and neighbours from each other; and which points they accept.
-use mathlib.Core.Path.{_≡_, ap₂}
+use mathlib.Core.Path.{_≡_, refl, ap₂}
 use mathlib.Core.Bool.{true, _&&_}
-use Prim.Native.Nat.{ℕ}
+use Prim.Native.Nat.{ℕ, _≤_}
 use lib.IntN.{ℤ, pos, negsuc, _-ℤ_}
 use lib.Signed.{_≤ℤ_}
-use Rattle.numbers.proofs.Size.{Size}
+use Rattle.numbers.proofs.Size.{Size, size-by}
 use Rattle.numbers.proofs.Tests.{and-three, and-four}
 use Rattle.rules.specs.Rules.{isCoordinate, areNeighbours}
 use Rattle.rules.proofs.Laws.{coordinate-size, coordinate-range, range-coordinate, neighbours-size, size-neighbours}
@@ -66,3 +66,9 @@ reaching-near W p v =
     ap₂ _&&_
     (ap₂ _&&_ (size-neighbours W (p .p0) (p .p1) (v .first)) (size-neighbours W (p .p1) (p .p2) (v .second)))
     (size-neighbours W (p .p2) (p .p3) (v .third))
+
+-- within a larger reach too
+pub near-further : {W W' : ℕ} → W ≤ W' → (p : Control) → areNear W p ≡ true → areNear W' p ≡ true
+near-further {W} {W'} h p e =
+    let v = reaches W p e in
+    reaching-near W' p (record { first = size-by refl h (v .first); second = size-by refl h (v .second); third = size-by refl h (v .third) })

@@ -3,7 +3,8 @@ use mathlib.Core.Path.{_≡_, refl, ap, _∙_}
 use mathlib.Core.Bool.{true}
 use Prim.Native.Nat.{ℕ, _≤_}
 use borrow.Author.Tests.{leb-true}
-use Rattle.rules.specs.Rules.{reach, isLevel}
+use Rattle.rules.specs.Rules.{isFinest, reach, isLevel}
+use Rattle.rules.proofs.Laws.{Fine, finest-holds}
 use Rattle.rules.proofs.Refusals.{rule-kept, answers}
 use Rattle.coordinate.specs.declared.Control.{Control}
 use Rattle.coordinate.specs.Points.{areCoordinates, areNear}
@@ -21,24 +22,27 @@ use Rattle.engine.specs.Start.{nothingDrawn, firstDrawing, started}
 use Rattle.engine.specs.Shown.{point}
 
 pub record Accepted (F : ℕ) (p : Coordinate → Control) (n : ℕ) : Type 0 where
+  pub fine : Fine F
   pub coordinates : (c : Coordinate) → areCoordinates (p c) ≡ true
-  pub near : (c : Coordinate) → areNear reach (p c) ≡ true
+  pub near : (c : Coordinate) → areNear (reach F) (p c) ≡ true
   pub level : n ≤ F
 
 pub accepted : (F : ℕ) (p : Coordinate → Control) (n : ℕ) → startRefusal F p n ≡ 0 → Accepted F p n
 unfolding startRefusal isLevel
 accepted F p n e =
-    let f = rule-kept (every (λ c. areCoordinates (p c))) 0 _ e in
-    let g = rule-kept (every (λ c. areNear reach (p c))) 1 _ (f .1) in
-    let h = rule-kept (isLevel F n) 2 0 (g .1) in
+    let finest = rule-kept (isFinest F) 23 _ e in
+    let points = rule-kept (every (λ c. areCoordinates (p c))) 0 _ (finest .1) in
+    let near = rule-kept (every (λ c. areNear (reach F) (p c))) 1 _ (points .1) in
+    let level = rule-kept (isLevel F n) 2 0 (near .1) in
     record {
-      coordinates = every-true (λ c. areCoordinates (p c)) (f .0);
-      near = every-true (λ c. areNear reach (p c)) (g .0);
-      level = leb-true n F (h .0);
+      fine = finest-holds F (finest .0);
+      coordinates = every-true (λ c. areCoordinates (p c)) (points .0);
+      near = every-true (λ c. areNear (reach F) (p c)) (near .0);
+      level = leb-true n F (level .0);
     }
 
 pub start-begins : (F : ℕ) (p : Coordinate → Control) (n : ℕ) → startRefusal F p n ≡ 0
-    → started F p n ≡ record { refusal = 0; drawing = firstDrawing (λ c. cubic (p c)) n }
+    → started F p n ≡ record { refusal = 0; drawing = firstDrawing F (λ c. cubic (p c)) n }
 unfolding started
 start-begins F p n e = answers (refused nothingDrawn) _ e
 

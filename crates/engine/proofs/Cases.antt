@@ -11,7 +11,7 @@ use Rattle.numbers.specs.Tests.{eqbℤ}
 use Rattle.numbers.proofs.Tests.{eqbℤ→eq}
 use Rattle.numbers.specs.Tables.{All, every}
 use Rattle.numbers.proofs.Tables.{tested}
-use Rattle.rules.specs.Rules.{finest, isCoordinate, areNeighbours, isLevel}
+use Rattle.rules.specs.Rules.{isFinest, reach, isCoordinate, areNeighbours, isLevel}
 use Rattle.coordinate.specs.declared.Registers.{Registers}
 use Rattle.coordinate.specs.declared.Control.{Control}
 use Rattle.coordinate.specs.Curve.{curve}
@@ -26,6 +26,7 @@ use Rattle.engine.specs.Start.{zeros, started}
 
 -- the numbers that the document gives, where it gives them
 pub record Row : Type 0 where
+  pub finest : ℕ
   pub points : Control
   pub level : ℕ
   pub calls : List Operation
@@ -39,13 +40,13 @@ pub record Row : Type 0 where
 -- the answer to the last call, or to the first one that is refused
 abbrev pub run : Moved → List Operation → Moved
 run m [] = m
-run m (op ∷ ops) = cond (eqb (m .refusal) 0) (run (called finest op (m .drawing)) ops) m
+run m (op ∷ ops) = cond (eqb (m .refusal) 0) (run (called op (m .drawing)) ops) m
 
 abbrev pub flat : ℤ → Control
 flat z = record { p0 = z; p1 = z; p2 = z; p3 = z }
 
 abbrev pub reached : Row → Moved
-reached w = run (started finest (pick (w .points) (flat (pos 0)) (flat (pos 0))) (w .level)) (w .calls)
+reached w = run (started (w .finest) (pick (w .points) (flat (pos 0)) (flat (pos 0))) (w .level)) (w .calls)
 
 -- a number is what the document says, where it says something
 abbrev pub Agrees : {A : Type 0} → Option A → A → Type 0
@@ -69,11 +70,11 @@ line p q r s = record { p0 = p; p1 = q; p2 = r; p3 = s }
 
 -- a row whose start is accepted
 abbrev row : Control → ℕ → List Operation → Option ℕ → Option ℤ → Option ℤ → Option ℤ → Option ℤ → Row
-row p n ops q a b c d = record { points = p; level = n; calls = ops; refusal = 0; q = q; a = a; b = b; c = c; d = d }
+row p n ops q a b c d = record { finest = 11; points = p; level = n; calls = ops; refusal = 0; q = q; a = a; b = b; c = c; d = d }
 
 -- a row of which the document gives the refusal alone
 abbrev gives : Control → ℕ → ℕ → Row
-gives p n k = record { points = p; level = n; calls = []; refusal = k; q = none; a = none; b = none; c = none; d = none }
+gives p n k = record { finest = 11; points = p; level = n; calls = []; refusal = k; q = none; a = none; b = none; c = none; d = none }
 
 abbrev eight : Control
 eight = line (pos 0) (pos 0) (pos 0) (pos 8)
@@ -174,5 +175,5 @@ right-holds w t =
     }
 
 pub starred : All Holds table
-unfolding table started startRefusal everyCoordinate areCoordinates areNear isCoordinate areNeighbours isLevel curve startRegisters called callRefusal gate isDrawing isAligned registersRefusal turned turn areRegisters
+unfolding table started startRefusal isFinest reach everyCoordinate areCoordinates areNear isCoordinate areNeighbours isLevel curve startRegisters called callRefusal gate isDrawing isAligned registersRefusal turned turn areRegisters
 starred = tested Holds right right-holds table tt

@@ -29,13 +29,13 @@ moved-refused k old new h =
 
 -- ---- halve, double and step
 
-pub call-refuses-as-tabled : (F : ℕ) (op : Operation) (d : Drawing) → Among (called F op d .refusal) (callTable op)
+pub call-refuses-as-tabled : (op : Operation) (d : Drawing) → Among (called op d .refusal) (callTable op)
 unfolding called
-call-refuses-as-tabled F op d = rw moved-refusal (call-among F op (d .level) (d .q) (λ c. of c (turned F op d)))
+call-refuses-as-tabled op d = rw moved-refusal (call-among (d .finest) op (d .level) (d .q) (λ c. of c (turned op d)))
 
-pub refused-call-changes-nothing : (F : ℕ) (op : Operation) (d : Drawing) → (called F op d .refusal ≡ 0 → ⊥) → called F op d .drawing ≡ d
+pub refused-call-changes-nothing : (op : Operation) (d : Drawing) → (called op d .refusal ≡ 0 → ⊥) → called op d .drawing ≡ d
 unfolding called
-refused-call-changes-nothing F op d = moved-refused (firstOf (callRefusal F op (d .level) (d .q)) (registersRefusal (λ c. of c (turned F op d)))) d (turned F op d)
+refused-call-changes-nothing op d = moved-refused (firstOf (callRefusal (d .finest) op (d .level) (d .q)) (registersRefusal (λ c. of c (turned op d)))) d (turned op d)
 
 -- ---- the start
 
@@ -46,6 +46,7 @@ start-refuses-as-tabled F p n = rw moved-refusal (start-among F p n)
 pub refused-start-gives-zeros : (F : ℕ) (p : Coordinate → Control) (n : ℕ) → (started F p n .refusal ≡ 0 → ⊥)
     → started F p n .drawing
     ≡ record {
+      finest = 0;
       level = 0;
       q = 0;
       x = record { a = pos 0; b = pos 0; c = pos 0; d = pos 0 };
@@ -53,23 +54,23 @@ pub refused-start-gives-zeros : (F : ℕ) (p : Coordinate → Control) (n : ℕ)
       width = record { a = pos 0; b = pos 0; c = pos 0; d = pos 0 };
     }
 unfolding started
-refused-start-gives-zeros F p n = moved-refused (startRefusal F p n) nothingDrawn (firstDrawing (λ c. cubic (p c)) n)
+refused-start-gives-zeros F p n = moved-refused (startRefusal F p n) nothingDrawn (firstDrawing F (λ c. cubic (p c)) n)
 
 -- ---- choosing
 
-pub said-refusal : (F upper lower : ℕ) (d : Drawing) → choice F upper lower d .refusal ≡ choiceRefusal F upper lower (d .level) (d .q)
+pub said-refusal : (upper lower : ℕ) (d : Drawing) → choice upper lower d .refusal ≡ choiceRefusal (d .finest) upper lower (d .level) (d .q)
 unfolding choice
-said-refusal F upper lower d = number-answered refusedBy (says (chosen F upper lower d)) (λ (s : Said). s .refusal) (λ k. refl) refl _
+said-refusal upper lower d = number-answered refusedBy (says (chosen upper lower d)) (λ (s : Said). s .refusal) (λ k. refl) refl _
 
-pub choice-refuses-as-tabled : (F upper lower : ℕ) (d : Drawing) → Among (choice F upper lower d .refusal) choiceTable
-choice-refuses-as-tabled F upper lower d = rw said-refusal (choice-among F (d .level) (d .q) upper lower)
+pub choice-refuses-as-tabled : (upper lower : ℕ) (d : Drawing) → Among (choice upper lower d .refusal) choiceTable
+choice-refuses-as-tabled upper lower d = rw said-refusal (choice-among (d .finest) (d .level) (d .q) upper lower)
 
 -- under the standard limits, 65,536 and 32,768
-pub standard-refuses-as-tabled : (F : ℕ) (d : Drawing) → Among (choice F 65536 32768 d .refusal) standardTable
-standard-refuses-as-tabled F d = rw said-refusal (standard-among F (d .level) (d .q))
+pub standard-refuses-as-tabled : (d : Drawing) → Among (choice 65536 32768 d .refusal) standardTable
+standard-refuses-as-tabled d = rw said-refusal (standard-among (d .finest) (d .level) (d .q))
 
-pub refused-choice-names-nothing : (F upper lower : ℕ) (d : Drawing) → (choice F upper lower d .refusal ≡ 0 → ⊥) → choice F upper lower d .operation ≡ none
+pub refused-choice-names-nothing : (upper lower : ℕ) (d : Drawing) → (choice upper lower d .refusal ≡ 0 → ⊥) → choice upper lower d .operation ≡ none
 unfolding choice
-refused-choice-names-nothing F upper lower d h =
+refused-choice-names-nothing upper lower d h =
     ap (λ (s : Said). s .operation)
-    (refused-answers refusedBy (says (chosen F upper lower d)) (λ (s : Said). s .refusal) (λ k. refl) refl (choiceRefusal F upper lower (d .level) (d .q)) h)
+    (refused-answers refusedBy (says (chosen upper lower d)) (λ (s : Said). s .refusal) (λ k. refl) refl (choiceRefusal (d .finest) upper lower (d .level) (d .q)) h)

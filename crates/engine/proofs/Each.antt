@@ -10,16 +10,16 @@ use Rattle.engine.specs.Drawing.{of, turned}
 use Rattle.engine.specs.Start.{firstDrawing}
 use Rattle.engine.specs.Shown.{point}
 
-pub first-of : (p : Coordinate → Course) (n : ℕ) (c : Coordinate) → of c (firstDrawing p n) ≡ startRegisters n (p c .curve)
-first-of p n in-x = refl
-first-of p n in-y = refl
-first-of p n in-width = refl
+pub first-of : (F : ℕ) (p : Coordinate → Course) (n : ℕ) (c : Coordinate) → of c (firstDrawing F p n) ≡ startRegisters n (p c .curve)
+first-of F p n in-x = refl
+first-of F p n in-y = refl
+first-of F p n in-width = refl
 
-pub turned-of : (F : ℕ) (op : Operation) (d : Drawing) (c : Coordinate) → of c (turned F op d) ≡ turn op (d .level) (of c d)
+pub turned-of : (op : Operation) (d : Drawing) (c : Coordinate) → of c (turned op d) ≡ turn op (d .level) (of c d)
 unfolding turned
-turned-of F op d in-x = refl
-turned-of F op d in-y = refl
-turned-of F op d in-width = refl
+turned-of op d in-x = refl
+turned-of op d in-y = refl
+turned-of op d in-width = refl
 
 pub shown-of : (d : Drawing) (c : Coordinate) → pick (point d .x) (point d .y) (point d .width) c ≡ pixel (of c d)
 unfolding point

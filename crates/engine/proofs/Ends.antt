@@ -27,10 +27,10 @@ abbrev held : Drawing → Coordinate → Registers
 held d = λ c. of c d
 
 -- after a chosen double the upper test does not ask to halve
-double-holds : (F upper lower : ℕ) (d : Drawing) → Rule2 F upper lower (d .level) (d .q) (held d)
-    → wantsHalve F upper (turned F double d .level) (held (turned F double d)) ≡ false
+double-holds : (upper lower : ℕ) (d : Drawing) → Rule2 (d .finest) upper lower (d .level) (d .q) (held d)
+    → wantsHalve (d .finest) upper (turned double d .level) (held (turned double d)) ≡ false
 unfolding wantsHalve turned doubledIncrement
-double-holds F upper lower d w = simp (le-ltb upper _ (w .doubled-x), le-ltb upper _ (w .doubled-y))
+double-holds upper lower d w = simp (le-ltb upper _ (w .doubled-x), le-ltb upper _ (w .doubled-y))
 
 -- ---- and it falls
 
@@ -38,33 +38,33 @@ at-most : (F : ℕ) (b : Bool) (n : ℕ) → n ≤ F → cond b (2 * F + 1 - n) 
 at-most F true n h = omega arith
 at-most F false n h = omega arith
 
-step-falls : (F upper : ℕ) (d : Drawing) → d .level ≤ F → d .q + stride F (d .level) ≤ 2 ^ F → left F upper (turned F step d) < left F upper d
+step-falls : (upper : ℕ) (d : Drawing) → d .level ≤ d .finest → d .q + stride (d .finest) (d .level) ≤ 2 ^ d .finest → left upper (turned step d) < left upper d
 unfolding turned
-step-falls F upper d h k =
-    let s = pow-pos (F - d .level) in
-    let less : 2 ^ F - (d .q + stride F (d .level)) + 1 ≤ 2 ^ F - d .q = omega arith in
-    omega (arith, mul-le-mul-right (2 * F + 2) less, at-most F (wantsHalve F upper (d .level) (held (turned F step d))) (d .level) h)
+step-falls upper d h k =
+    let s = pow-pos (d .finest - d .level) in
+    let less : 2 ^ d .finest - (d .q + stride (d .finest) (d .level)) + 1 ≤ 2 ^ d .finest - d .q = omega arith in
+    omega (arith, mul-le-mul-right (2 * d .finest + 2) less, at-most (d .finest) (wantsHalve (d .finest) upper (d .level) (held (turned step d))) (d .level) h)
 
 halve-less : (F : ℕ) (b : Bool) (n : ℕ) → n < F → cond b (2 * F + 1 - (n + 1)) (n + 1) < 2 * F + 1 - n
 halve-less F true n h = omega arith
 halve-less F false n h = omega arith
 
-halve-falls : (F upper : ℕ) (d : Drawing) → Rule1 F upper (d .level) (held d) → left F upper (turned F halve d) < left F upper d
+halve-falls : (upper : ℕ) (d : Drawing) → Rule1 (d .finest) upper (d .level) (held d) → left upper (turned halve d) < left upper d
 unfolding turned
-halve-falls F upper d w =
-    simp (wants-halve F upper (d .level) (held d) w)
-    (omega (arith, halve-less F (wantsHalve F upper (d .level + 1) (held (turned F halve d))) (d .level) (w .below)))
+halve-falls upper d w =
+    simp (wants-halve (d .finest) upper (d .level) (held d) w)
+    (omega (arith, halve-less (d .finest) (wantsHalve (d .finest) upper (d .level + 1) (held (turned halve d))) (d .level) (w .below)))
 
-double-falls : (F upper lower : ℕ) (d : Drawing) → (Rule1 F upper (d .level) (held d) → ⊥) → Rule2 F upper lower (d .level) (d .q) (held d)
-    → left F upper (turned F double d) < left F upper d
+double-falls : (upper lower : ℕ) (d : Drawing) → (Rule1 (d .finest) upper (d .level) (held d) → ⊥) → Rule2 (d .finest) upper lower (d .level) (d .q) (held d)
+    → left upper (turned double d) < left upper d
 unfolding turned
-double-falls F upper lower d h w =
-    let not-halved = broken (wantsHalve F upper (d .level) (held d)) (λ e. h (halve-wanted F upper (d .level) (held d) e)) in
-    simp (not-halved, double-holds F upper lower d w) (omega (arith, w .above))
+double-falls upper lower d h w =
+    let not-halved = broken (wantsHalve (d .finest) upper (d .level) (held d)) (λ e. h (halve-wanted (d .finest) upper (d .level) (held d) e)) in
+    simp (not-halved, double-holds upper lower d w) (omega (arith, w .above))
 
-pub chosen-falls : (F upper lower : ℕ) (d : Drawing) → Open F (d .level) (d .q) → left F upper (turned F (chosen F upper lower d) d) < left F upper d
-chosen-falls F upper lower d o =
-    by-rules F upper lower (d .level) (d .q) (held d) (λ op. left F upper (turned F op d) < left F upper d)
-    (halve-falls F upper d)
-    (double-falls F upper lower d)
-    (λ h g. step-falls F upper d (o .inside .level) (step-within F (d .level) (d .q) o))
+pub chosen-falls : (upper lower : ℕ) (d : Drawing) → Open (d .finest) (d .level) (d .q) → left upper (turned (chosen upper lower d) d) < left upper d
+chosen-falls upper lower d o =
+    by-rules (d .finest) upper lower (d .level) (d .q) (held d) (λ op. left upper (turned op d) < left upper d)
+    (halve-falls upper d)
+    (double-falls upper lower d)
+    (λ h g. step-falls upper d (o .inside .level) (step-within (d .finest) (d .level) (d .q) o))

@@ -1,4 +1,4 @@
--- The numbers that the entries answer are those of the tables, whose order is in operations/proofs/Order: of an operation the refusal by level and q
+-- The numbers that the entries answer are those of the tables, whose order is in operations/proofs/Order: of an operation the refusal by F, level and q
 -- first, and 10 by a new register last.
 use mathlib.Core.Path.{_≡_, _∙_}
 use Prim.Native.Nat.{ℕ}
@@ -18,24 +18,24 @@ use Rattle.engine.proofs.Demand1.{moved-refusal}
 
 pub start-number : (F : ℕ) (p : Coordinate → Control) (n : ℕ) → started F p n .refusal ≡ startRefusal F p n
 unfolding started
-start-number F p n = moved-refusal (startRefusal F p n) nothingDrawn (firstDrawing (λ c. cubic (p c)) n)
+start-number F p n = moved-refusal (startRefusal F p n) nothingDrawn (firstDrawing F (λ c. cubic (p c)) n)
 
-module _ (F : ℕ) (op : Operation) (d : Drawing) where
-  call-number : called F op d .refusal ≡ firstOf (callRefusal F op (d .level) (d .q)) (registersRefusal (λ c. of c (turned F op d)))
+module _ (op : Operation) (d : Drawing) where
+  call-number : called op d .refusal ≡ firstOf (callRefusal (d .finest) op (d .level) (d .q)) (registersRefusal (λ c. of c (turned op d)))
   unfolding called
-  call-number = moved-refusal (firstOf (callRefusal F op (d .level) (d .q)) (registersRefusal (λ c. of c (turned F op d)))) d (turned F op d)
+  call-number = moved-refusal (firstOf (callRefusal (d .finest) op (d .level) (d .q)) (registersRefusal (λ c. of c (turned op d)))) d (turned op d)
 
   -- whatever its registers are
-  pub level-and-q-first : (callRefusal F op (d .level) (d .q) ≡ 0 → ⊥) → called F op d .refusal ≡ callRefusal F op (d .level) (d .q)
-  level-and-q-first h = call-number ∙ first-stop (callRefusal F op (d .level) (d .q)) (registersRefusal (λ c. of c (turned F op d))) h
+  pub level-and-q-first : (callRefusal (d .finest) op (d .level) (d .q) ≡ 0 → ⊥) → called op d .refusal ≡ callRefusal (d .finest) op (d .level) (d .q)
+  level-and-q-first h = call-number ∙ first-stop (callRefusal (d .finest) op (d .level) (d .q)) (registersRefusal (λ c. of c (turned op d))) h
 
-  module _ (let-through : callRefusal F op (d .level) (d .q) ≡ 0) where
-    by-registers : firstOf (callRefusal F op (d .level) (d .q)) (registersRefusal (λ c. of c (turned F op d))) ≡ registersRefusal (λ c. of c (turned F op d))
-    by-registers = first-on (callRefusal F op (d .level) (d .q)) (registersRefusal (λ c. of c (turned F op d))) let-through
+  module _ (let-through : callRefusal (d .finest) op (d .level) (d .q) ≡ 0) where
+    by-registers : firstOf (callRefusal (d .finest) op (d .level) (d .q)) (registersRefusal (λ c. of c (turned op d))) ≡ registersRefusal (λ c. of c (turned op d))
+    by-registers = first-on (callRefusal (d .finest) op (d .level) (d .q)) (registersRefusal (λ c. of c (turned op d))) let-through
 
-    pub registers-last : (((c : Coordinate) → AllWithin (of c (turned F op d))) → ⊥) → called F op d .refusal ≡ 10
-    registers-last h = call-number ∙ by-registers ∙ registers-refuse-10 (λ c. of c (turned F op d)) h
+    pub registers-last : (((c : Coordinate) → AllWithin (of c (turned op d))) → ⊥) → called op d .refusal ≡ 10
+    registers-last h = call-number ∙ by-registers ∙ registers-refuse-10 (λ c. of c (turned op d)) h
 
-    pub turns : ((c : Coordinate) → AllWithin (of c (turned F op d))) → called F op d ≡ record { refusal = 0; drawing = turned F op d }
+    pub turns : ((c : Coordinate) → AllWithin (of c (turned op d))) → called op d ≡ record { refusal = 0; drawing = turned op d }
     unfolding called
-    turns h = answers (refused d) _ (by-registers ∙ registers-accepted (λ c. of c (turned F op d)) h)
+    turns h = answers (refused d) _ (by-registers ∙ registers-accepted (λ c. of c (turned op d)) h)

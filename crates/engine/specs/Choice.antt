@@ -11,13 +11,15 @@ use Rattle.engine.specs.declared.Next.{Next}
 use Rattle.engine.specs.declared.Next.the-variants.{Halve, Double, Step, Refused}
 use Rattle.engine.specs.Drawing.{of}
 
-abbrev pub chosen : ℕ → ℕ → ℕ → Drawing → Operation
-chosen F upper lower d = choose F upper lower (d .level) (d .q) (λ c. of c d)
+abbrev pub chosen : ℕ → ℕ → Drawing → Operation
+chosen upper lower d = choose (d .finest) upper lower (d .level) (d .q) (λ c. of c d)
 
 -- A number that falls with every chosen operation (`chosen-falls` in proofs/Ends), so that no more operations than this are left: 2F + 2
 -- for each unit of q, and for the level how far it may still be halved, or doubled.
-abbrev pub left : ℕ → ℕ → Drawing → ℕ
-left F upper d = (2 ^ F - d .q) * (2 * F + 2) + cond (wantsHalve F upper (d .level) (λ c. of c d)) (2 * F + 1 - d .level) (d .level)
+abbrev pub left : ℕ → Drawing → ℕ
+left upper d =
+    let F = d .finest in
+    (2 ^ F - d .q) * (2 * F + 2) + cond (wantsHalve F upper (d .level) (λ c. of c d)) (2 * F + 1 - d .level) (d .level)
 
 -- ---- the answer, as numbers: the refusal, and the operation where there is none
 
@@ -42,5 +44,5 @@ said Double = says double
 said Step = says step
 said (Refused k) = refusedBy k
 
-unfoldable pub choice : ℕ → ℕ → ℕ → Drawing → Said
-choice F upper lower d = refusalOr (choiceRefusal F upper lower (d .level) (d .q)) refusedBy (says (chosen F upper lower d))
+unfoldable pub choice : ℕ → ℕ → Drawing → Said
+choice upper lower d = refusalOr (choiceRefusal (d .finest) upper lower (d .level) (d .q)) refusedBy (says (chosen upper lower d))

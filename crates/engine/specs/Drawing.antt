@@ -1,4 +1,4 @@
--- A drawing: level n, position q in 2^F-ths of the parameter, and the registers of each coordinate. F is the finest level.
+-- A drawing: finest level F, level n, position q in 2^F-ths of the parameter, and the registers of each coordinate. Its own F decides.
 use Prim.Native.Nat.{ℕ}
 use Rattle.rules.specs.Refusals.{firstOf, refusalOr}
 use Rattle.coordinate.specs.declared.Registers.{Registers}
@@ -16,11 +16,12 @@ of in-y d = d .y
 of in-width d = d .width
 
 -- the drawing after an operation, with registers of any size
-unfoldable pub turned : ℕ → Operation → Drawing → Drawing
-turned F op d =
+unfoldable pub turned : Operation → Drawing → Drawing
+turned op d =
     record {
+      finest = d .finest;
       level = newLevel op (d .level);
-      q = newPosition F op (d .level) (d .q);
+      q = newPosition (d .finest) op (d .level) (d .q);
       x = turn op (d .level) (d .x);
       y = turn op (d .level) (d .y);
       width = turn op (d .level) (d .width);
@@ -38,6 +39,6 @@ unfoldable pub landed : Drawing → Drawing → Moved
 landed old new = moved (registersRefusal (λ c. of c new)) old new
 
 -- what halve, double and step answer: 10 by registers comes last
-unfoldable pub called : ℕ → Operation → Drawing → Moved
-called F op d =
-    moved (firstOf (callRefusal F op (d .level) (d .q)) (registersRefusal (λ c. of c (turned F op d)))) d (turned F op d)
+unfoldable pub called : Operation → Drawing → Moved
+called op d =
+    moved (firstOf (callRefusal (d .finest) op (d .level) (d .q)) (registersRefusal (λ c. of c (turned op d)))) d (turned op d)

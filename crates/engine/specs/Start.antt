@@ -16,12 +16,13 @@ abbrev pub zeros : Registers
 zeros = record { a = pos 0; b = pos 0; c = pos 0; d = pos 0 }
 
 abbrev pub nothingDrawn : Drawing
-nothingDrawn = record { level = 0; q = 0; x = zeros; y = zeros; width = zeros }
+nothingDrawn = record { finest = 0; level = 0; q = 0; x = zeros; y = zeros; width = zeros }
 
--- at level n and q = 0
-abbrev pub firstDrawing : (Coordinate → Course) → ℕ → Drawing
-firstDrawing p n =
+-- at finest level F, level n and q = 0
+abbrev pub firstDrawing : ℕ → (Coordinate → Course) → ℕ → Drawing
+firstDrawing F p n =
     record {
+      finest = F;
       level = n;
       q = 0;
       x = startRegisters n (p in-x .curve);
@@ -31,4 +32,4 @@ firstDrawing p n =
 
 -- a refused start gives a drawing with every number 0
 unfoldable pub started : ℕ → (Coordinate → Control) → ℕ → Moved
-started F p n = moved (startRefusal F p n) nothingDrawn (firstDrawing (λ c. cubic (p c)) n)
+started F p n = moved (startRefusal F p n) nothingDrawn (firstDrawing F (λ c. cubic (p c)) n)

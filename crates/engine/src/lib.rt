@@ -5,7 +5,7 @@ mod starting;
 mod turning;
 
 ghost use mathlib.Core.Path.{_≡_};
-ghost use Rattle.rules.specs.Rules.{finest, standardUpper, standardLower};
+ghost use Rattle.rules.specs.Rules.{standardUpper, standardLower};
 ghost use Rattle.coordinate.specs.Registers.{halve, double, step};
 ghost use Rattle.operations.specs.Coordinates.{pick};
 ghost use Rattle.engine.specs.Drawing.{called};
@@ -22,7 +22,7 @@ use refusals::gate;
 use refusals::halve_refusal;
 use refusals::is_aligned;
 use refusals::stride;
-use rules::FINEST;
+use rules::Limits;
 use starting::nothing;
 use starting::start_one;
 use starting::start_refusal;
@@ -33,8 +33,9 @@ use turning::pixel_of;
 use turning::refuse;
 use turning::step_one;
 
-// A drawing at level `level` and position `q`, which counts 2^FINEST-ths of the parameter.
+// A drawing at level `level` and position `q`, which counts 2^finest-ths of the parameter.
 pub struct Drawing {
+    pub finest: u32,
     pub level: u32,
     pub q: u32,
     pub x: Registers,
@@ -64,17 +65,18 @@ pub struct Shown {
 }
 
 impl Drawing {
-    // The drawing at the start of a curve. Refuses 1, 2, 3, with every number of the drawing 0.
-    pub fn start(x: Control, y: Control, width: Control, level: u32) -> Moved
+    // The drawing at the start of a curve, at a finest level from 6 to 12. Refuses 24, 1, 2, 3, with every number of the drawing 0.
+    pub fn start(x: Control, y: Control, width: Control, finest: u32, level: u32) -> Moved
         ensures { λ r. ⌜ r ≡ started finest (pick x y width) level ⌝ }
     {
-        let refusal = start_refusal(x, y, width, level);
+        let refusal = start_refusal(x, y, width, finest, level);
         if refusal != 0 {
             return refuse(refusal, nothing());
         }
         Moved {
             refusal: 0,
             drawing: Drawing {
+                finest: finest,
                 level: level,
                 q: 0,
                 x: start_one(x, level),
@@ -86,11 +88,11 @@ impl Drawing {
 
     // One level finer. Refuses 10, 5, 6, 10, with the drawing as it was.
     pub fn halve(self) -> Moved
-        ensures { λ r. ⌜ r ≡ called finest halve self ⌝ }
+        ensures { λ r. ⌜ r ≡ called halve self ⌝ }
     {
         let level = self.level;
         let q = self.q;
-        let refusal = halve_refusal(level, q);
+        let refusal = halve_refusal(self.finest, level, q);
         if refusal != 0 {
             return refuse(refusal, self);
         }
@@ -102,11 +104,11 @@ impl Drawing {
 
     // One level coarser. Refuses 10, 5, 7, 8, 10, with the drawing as it was.
     pub fn double(self) -> Moved
-        ensures { λ r. ⌜ r ≡ called finest double self ⌝ }
+        ensures { λ r. ⌜ r ≡ called double self ⌝ }
     {
         let level = self.level;
         let q = self.q;
-        let refusal = double_refusal(level, q);
+        let refusal = double_refusal(self.finest, level, q);
         if refusal != 0 {
             return refuse(refusal, self);
         }
@@ -118,43 +120,47 @@ impl Drawing {
 
     // One step on. Refuses 10, 5, 10, with the drawing as it was.
     pub fn step(self) -> Moved
-        ensures { λ r. ⌜ r ≡ called finest step self ⌝ }
+        ensures { λ r. ⌜ r ≡ called step self ⌝ }
     {
+        let finest = self.finest;
         let level = self.level;
         let q = self.q;
-        let refusal = gate(level, q);
+        let refusal = gate(finest, level, q);
         if refusal != 0 {
             return refuse(refusal, self);
         }
         let x = step_one(self.x, level);
         let y = step_one(self.y, level);
         let width = step_one(self.width, level);
-        land(self, level, q + stride(level), x, y, width)
+        land(self, level, q + stride(finest, level), x, y, width)
     }
 
     // The operation that the three rules choose under these limits, by x and y alone. Refuses 4, 10, 5.
-    pub fn next(self, upper: u32, lower: u32) -> Next
-        ensures { λ r. ⌜ said r ≡ choice finest upper lower self ⌝ }
+    pub fn next(self, limits: Limits) -> Next
+        ensures { λ r. ⌜ said r ≡ choice (limits .upper) (limits .lower) self ⌝ }
     {
+        let finest = self.finest;
         let level = self.level;
         let q = self.q;
-        let refusal = choice_refusal(upper, lower, level, q);
+        let refusal = choice_refusal(limits, finest, level, q);
         if refusal != 0 {
             return Next::Refused(refusal);
         }
+        let upper = limits.upper as u64;
+        let lower = limits.lower as u64;
         let x = increment_of(self.x.c, level);
         let y = increment_of(self.y.c, level);
-        if (((upper as u64) < x) | ((upper as u64) < y)) & (level < FINEST) {
+        if ((upper < x) | (upper < y)) & (level < finest) {
             return Next::Halve;
         }
         // A doubled increment is reckoned only where all else asks to double.
-        let smaller = (x < lower as u64) & (y < lower as u64);
-        if !((0 < level) & smaller & is_aligned(level, q)) {
+        let smaller = (x < lower) & (y < lower);
+        if !((0 < level) & smaller & is_aligned(finest, level, q)) {
             return Next::Step;
         }
         let doubled_x = doubled_increment_of(self.x.b, self.x.c, level);
         let doubled_y = doubled_increment_of(self.y.b, self.y.c, level);
-        if (doubled_x <= upper as u64) & (doubled_y <= upper as u64) {
+        if (doubled_x <= upper) & (doubled_y <= upper) {
             return Next::Double;
         }
         Next::Step
@@ -162,9 +168,9 @@ impl Drawing {
 
     // The same under the standard limits. Refuses 10, 5.
     pub fn next_standard(self) -> Next
-        ensures { λ r. ⌜ said r ≡ choice finest standardUpper standardLower self ⌝ }
+        ensures { λ r. ⌜ said r ≡ choice standardUpper standardLower self ⌝ }
     {
-        self.next(rules::STANDARD_UPPER, rules::STANDARD_LOWER)
+        self.next(Limits::standard())
     }
 
     // The point of any drawing: the nearest to d in each coordinate, halves upward.

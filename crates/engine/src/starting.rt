@@ -2,7 +2,7 @@
 ghost use mathlib.Core.Path.{_≡_};
 ghost use mathlib.Core.Bool.{true};
 ghost use Prim.Native.Nat.{_≤_};
-ghost use Rattle.rules.specs.Rules.{finest, reach};
+ghost use Rattle.rules.specs.Rules.{mostFinest, mostReach};
 ghost use Rattle.coordinate.specs.Curve.{curve};
 ghost use Rattle.coordinate.specs.Points.{areCoordinates, areNear};
 ghost use Rattle.coordinate.specs.Registers.{startRegisters};
@@ -13,18 +13,22 @@ use crate::Drawing;
 use coordinate::Control;
 use coordinate::Registers;
 
-pub(crate) fn start_refusal(x: Control, y: Control, width: Control, level: u32) -> u32
+pub(crate) fn start_refusal(x: Control, y: Control, width: Control, finest: u32, level: u32) -> u32
     ensures { λ r. ⌜ r ≡ startRefusal finest (pick x y width) level ⌝ }
 {
+    if !rules::finest(finest) {
+        return 24;
+    }
     let inside = coordinates(x) & coordinates(y) & coordinates(width);
     if !inside {
         return 1;
     }
-    let close = near(x) & near(y) & near(width);
+    let reach = rules::reach(finest);
+    let close = near(reach, x) & near(reach, y) & near(reach, width);
     if !close {
         return 2;
     }
-    if !rules::level(level) {
+    if !rules::level(finest, level) {
         return 3;
     }
     0
@@ -39,15 +43,17 @@ fn coordinates(p: Control) -> bool
         & rules::coordinate(p.p3)
 }
 
-fn near(p: Control) -> bool
+fn near(reach: u32, p: Control) -> bool
     ensures { λ r. ⌜ r ≡ areNear reach p ⌝ }
 {
-    rules::neighbours(p.p0, p.p1) & rules::neighbours(p.p1, p.p2) & rules::neighbours(p.p2, p.p3)
+    rules::neighbours(reach, p.p0, p.p1)
+        & rules::neighbours(reach, p.p1, p.p2)
+        & rules::neighbours(reach, p.p2, p.p3)
 }
 
 // By the differences of neighbours, which are small: every sum here fits 32 bits.
 pub(crate) fn start_one(p: Control, n: u32) -> Registers
-    requires { ⌜ (n ≤ finest) × (areCoordinates p ≡ true) × (areNear reach p ≡ true) ⌝ }
+    requires { ⌜ (n ≤ mostFinest) × (areCoordinates p ≡ true) × (areNear mostReach p ≡ true) ⌝ }
     ensures { λ r. ⌜ r ≡ startRegisters n (curve p) ⌝ }
 {
     let first = p.p1 - p.p0;
@@ -78,6 +84,7 @@ pub(crate) fn nothing() -> Drawing
         d: 0,
     };
     Drawing {
+        finest: 0,
         level: 0,
         q: 0,
         x: zeros,

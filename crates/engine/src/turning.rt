@@ -2,7 +2,7 @@
 ghost use mathlib.Core.Path.{_≡_};
 ghost use mathlib.Core.Bool.{true};
 ghost use Prim.Native.Nat.{_≤_};
-ghost use Rattle.rules.specs.Rules.{finest};
+ghost use Rattle.rules.specs.Rules.{mostFinest};
 ghost use Rattle.coordinate.specs.Registers.{halve, double, step, turn, areRegisters};
 ghost use Rattle.coordinate.specs.Shown.{pixel};
 ghost use Rattle.engine.specs.Drawing.{refused, landed};
@@ -31,7 +31,7 @@ pub(crate) fn widen(r: Registers) -> Wide
 }
 
 pub(crate) fn halve_one(r: Registers, n: u32) -> Wide
-    requires { ⌜ n ≤ finest ⌝ }
+    requires { ⌜ n ≤ mostFinest ⌝ }
     ensures { λ w. ⌜ narrowed w ≡ turn halve n r ⌝ }
 {
     let old = widen(r);
@@ -46,7 +46,7 @@ pub(crate) fn halve_one(r: Registers, n: u32) -> Wide
 }
 
 pub(crate) fn double_one(r: Registers, n: u32) -> Wide
-    requires { ⌜ n ≤ finest ⌝ }
+    requires { ⌜ n ≤ mostFinest ⌝ }
     ensures { λ w. ⌜ narrowed w ≡ turn double n r ⌝ }
 {
     let old = widen(r);
@@ -59,7 +59,7 @@ pub(crate) fn double_one(r: Registers, n: u32) -> Wide
 }
 
 pub(crate) fn step_one(r: Registers, n: u32) -> Wide
-    requires { ⌜ n ≤ finest ⌝ }
+    requires { ⌜ n ≤ mostFinest ⌝ }
     ensures { λ w. ⌜ narrowed w ≡ turn step n r ⌝ }
 {
     let old = widen(r);
@@ -71,13 +71,14 @@ pub(crate) fn step_one(r: Registers, n: u32) -> Wide
     }
 }
 
-// The new drawing where its registers fit 32 bits; otherwise the old one, refused 10.
+// The new drawing, of the old one's finest level, where its registers fit 32 bits; otherwise the old one, refused 10.
 pub(crate) fn land(old: Drawing, level: u32, q: u32, x: Wide, y: Wide, width: Wide) -> Moved
-    ensures { λ r. ⌜ r ≡ landed old (record { level = level; q = q; x = narrowed x; y = narrowed y; width = narrowed width }) ⌝ }
+    ensures { λ r. ⌜ r ≡ landed old (record { finest = old .finest; level = level; q = q; x = narrowed x; y = narrowed y; width = narrowed width }) ⌝ }
 {
     let all_fit = fit(x) & fit(y) & fit(width);
     if all_fit {
         let new = Drawing {
+            finest: old.finest,
             level: level,
             q: q,
             x: narrow(x),

@@ -4,11 +4,11 @@
 use mathlib.Core.Path.{_≡_, refl, sym, ap, _∙_, subst}
 use mathlib.Core.Bool.{true, false}
 use mathlib.Core.List.{List}
-use Prim.Native.Nat.{ℕ, _+_, _*_, _^_, _≤_, _<_}
-use native.Mathlib.Nat.{lt-of-le-of-lt, le-of-lt}
+use Prim.Native.Nat.{ℕ, _+_, _*_, _%_, _^_, _≤_, _<_}
+use native.Mathlib.Nat.{lt-of-le-of-lt, le-of-lt, mod-eq-of-lt, one-mul}
 use native.Mathlib.Omega.{arith}
 use lib.Dec.{T, leb, ltb, leb→le, ltb→lt}
-use lib.Pow.{pow-pos}
+use lib.Pow.{pow-pos, pow-mono}
 use lib.IntN.{ℤ, pos, negsuc, natAbs, _+ℤ_, _-ℤ_, _*ℤ_}
 use lib.ListN.{getD}
 use lib.Signed.{mag, mag-shr, shrZ, nonNeg}
@@ -116,6 +116,10 @@ minus a b =
 abbrev pub times : {N M : ℕ} {u v : ℤ} → Num N u → Num M v → Num (N * M) (u *ℤ v)
 times a b =
     record { machine = a .machine *ℤ b .machine; is = λ i. a .is i *ℤ b .is i; small = size-product (a .small) (b .small) }
+
+-- 1 << k, unsigned and in 32 bits
+pub power : (k : ℕ) → k ≤ 31 → 1 * 2 ^ k % 4294967296 ≡ 2 ^ k
+power k h = let fits : 2 ^ k ≤ 2147483648 = pow-mono {j = 31} h in mod-eq-of-lt (omega arith) ∙ one-mul (2 ^ k)
 
 -- ---- equal numbers, by their bits
 

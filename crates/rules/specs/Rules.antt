@@ -10,8 +10,11 @@ use Rattle.rules.specs.declared.Limits.{Limits}
 use Rattle.rules.specs.Refusals.{unless}
 
 -- 24: a finest level is from 6 to 12. At finest level F a position counts 2^F-ths of the parameter.
+abbrev pub mostFinest : ℕ
+mostFinest = 12
+
 unfoldable pub isFinest : ℕ → Bool
-isFinest F = leb 6 F && leb F 12
+isFinest F = leb 6 F && leb F mostFinest
 
 -- that of a sheet's paths
 abbrev pub sheetFinest : ℕ

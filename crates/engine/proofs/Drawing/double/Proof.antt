@@ -1,11 +1,13 @@
 -- A refusal hands the drawing back; otherwise the coordinates are doubled and land.
 use mathlib.Core.Path.{_≡_, refl, sym, _∙_}
 use Prim.Native.Nat.{_-_, _≤_}
-use Rattle.rules.specs.Rules.{finest}
+use Rattle.rules.specs.Rules.{mostFinest}
+use native.Mathlib.Nat.{le-trans}
 use borrow.Author.Needs.{needs}
 use borrow.Author.Tests.{ltb-true}
 use Rattle.rules.proofs.Refusals.{rule-kept}
 use Rattle.coordinate.specs.Registers.{double}
+use Rattle.operations.specs.Lawful.{Open}
 use Rattle.operations.specs.Refusals.{callRefusal}
 use Rattle.operations.proofs.Gates.{call-opens}
 use Rattle.engine.proofs.Answers.{call-refused, call-lands}
@@ -21,13 +23,16 @@ refuse-requires c κs = search needs
 returns : tie.Need-returns
 returns c =
     c .refuse .ensures
-    ∙ call-refused finest double (c .before .before .before .args .self) (c .before .before .double-refusal .ensures) (c .before .if1 .taken)
+    ∙ call-refused double (c .before .before .before .args .self) (c .before .before .double-refusal .ensures) (c .before .if1 .taken)
 
-passes : (c : tie.Else1) → callRefusal finest double (c .before .before .args .self .level) (c .before .before .args .self .q) ≡ 0
+passes : (c : tie.Else1) → callRefusal (c .before .before .args .self .finest) double (c .before .before .args .self .level) (c .before .before .args .self .q) ≡ 0
 passes c = sym (c .before .double-refusal .ensures) ∙ c .if1 .left
 
-low : (c : tie.Else1) → c .before .before .args .self .level ≤ finest
-low c = call-opens finest double _ _ (passes c) .0 .inside .level
+opens : (c : tie.Else1) → let d = c .before .before .args .self in Open (d .finest) (d .level) (d .q)
+opens c = call-opens _ double _ _ (passes c) .0
+
+low : (c : tie.Else1) → c .before .before .args .self .level ≤ mostFinest
+low c = let i = opens c .inside in le-trans (i .level) (i .finest-most)
 
 double-one-requires : tie.Need-double-one-requires
 double-one-requires c κs = low c
@@ -40,7 +45,7 @@ double-one-requires-3 c κs = low (c .before .before)
 
 sub-land : tie.Need-sub-land
 sub-land c =
-    let e = rule-kept _ _ _ (call-opens finest double _ _ (passes (c .before .before .before)) .1) in
+    let e = rule-kept _ _ _ (call-opens _ double _ _ (passes (c .before .before .before)) .1) in
     ltb-true _ _ (e .0)
 
 land-requires : tie.Need-land-requires
@@ -48,7 +53,7 @@ land-requires c κs = search needs
 
 returns-2 : tie.Need-returns-2
 returns-2 c =
-    call-lands finest double _ _ _ _ _ _ (passes (c .before .before .before .before)) (c .before .before .before .double-one .ensures) (c .before .before .double-one2 .ensures)
+    call-lands double _ _ _ _ _ _ (passes (c .before .before .before .before)) (c .before .before .before .double-one .ensures) (c .before .before .double-one2 .ensures)
     (c .before .double-one3 .ensures) refl (c .land .ensures)
 
 pub double-spec : {M : Type 1} → statement M

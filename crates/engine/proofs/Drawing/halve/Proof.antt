@@ -2,9 +2,11 @@
 use mathlib.Core.Path.{_≡_, refl, sym, _∙_}
 use Prim.Native.Nat.{_≤_}
 use native.Mathlib.Omega.{arith}
-use Rattle.rules.specs.Rules.{finest}
+use Rattle.rules.specs.Rules.{mostFinest}
+use native.Mathlib.Nat.{le-trans}
 use borrow.Author.Needs.{needs}
 use Rattle.coordinate.specs.Registers.{halve}
+use Rattle.operations.specs.Lawful.{Open}
 use Rattle.operations.specs.Refusals.{callRefusal}
 use Rattle.operations.proofs.Gates.{call-opens}
 use Rattle.engine.proofs.Answers.{call-refused, call-lands}
@@ -20,13 +22,16 @@ refuse-requires c κs = search needs
 returns : tie.Need-returns
 returns c =
     c .refuse .ensures
-    ∙ call-refused finest halve (c .before .before .before .args .self) (c .before .before .halve-refusal .ensures) (c .before .if1 .taken)
+    ∙ call-refused halve (c .before .before .before .args .self) (c .before .before .halve-refusal .ensures) (c .before .if1 .taken)
 
-passes : (c : tie.Else1) → callRefusal finest halve (c .before .before .args .self .level) (c .before .before .args .self .q) ≡ 0
+passes : (c : tie.Else1) → callRefusal (c .before .before .args .self .finest) halve (c .before .before .args .self .level) (c .before .before .args .self .q) ≡ 0
 passes c = sym (c .before .halve-refusal .ensures) ∙ c .if1 .left
 
-low : (c : tie.Else1) → c .before .before .args .self .level ≤ finest
-low c = call-opens finest halve _ _ (passes c) .0 .inside .level
+opens : (c : tie.Else1) → let d = c .before .before .args .self in Open (d .finest) (d .level) (d .q)
+opens c = call-opens _ halve _ _ (passes c) .0
+
+low : (c : tie.Else1) → c .before .before .args .self .level ≤ mostFinest
+low c = let i = opens c .inside in le-trans (i .level) (i .finest-most)
 
 halve-one-requires : tie.Need-halve-one-requires
 halve-one-requires c κs = low c
@@ -45,7 +50,7 @@ land-requires c κs = search needs
 
 returns-2 : tie.Need-returns-2
 returns-2 c =
-    call-lands finest halve _ _ _ _ _ _ (passes (c .before .before .before .before)) (c .before .before .before .halve-one .ensures) (c .before .before .halve-one2 .ensures)
+    call-lands halve _ _ _ _ _ _ (passes (c .before .before .before .before)) (c .before .before .before .halve-one .ensures) (c .before .before .halve-one2 .ensures)
     (c .before .halve-one3 .ensures) refl (c .land .ensures)
 
 pub halve-spec : {M : Type 1} → statement M

@@ -4,14 +4,16 @@ use mathlib.Core.Bool.{Bool, cond, _&&_}
 use Prim.Native.Nat.{ℕ, _≤_}
 use lib.Dec.{leb, ltb}
 use mir.Facts.{toZ-ofZ}
+use native.Mathlib.Nat.{le-trans}
 use borrow.Author.Needs.{needs}
 use borrow.Author.Tests.{ltb-true, not-true, not-false}
 use Rattle.numbers.proofs.Tests.{and-three}
-use Rattle.rules.specs.Rules.{finest}
+use Rattle.rules.specs.Rules.{mostFinest}
 use Rattle.rules.proofs.Refusals.{refuses}
 use Rattle.coordinate.specs.Registers.{double, step}
 use Rattle.coordinate.specs.Increment.{increment, doubledIncrement}
 use Rattle.coordinate.proofs.Bits.{Fits32}
+use Rattle.operations.specs.Lawful.{Inside}
 use Rattle.operations.specs.Refusals.{choiceRefusal}
 use Rattle.operations.specs.Choice.{wantsHalve, wantsDouble, choose}
 use Rattle.operations.proofs.Gates.{choice-opens}
@@ -36,37 +38,46 @@ abbrev d : tie.Else1 → Drawing
 d c = c .before .before .args .self
 
 abbrev upper : tie.Else1 → ℕ
-upper c = c .before .before .args .upper
+upper c = c .before .before .args .limits .upper
 
 abbrev lower : tie.Else1 → ℕ
-lower c = c .before .before .args .lower
+lower c = c .before .before .args .limits .lower
 
 abbrev answer : tie.Else1 → Said
-answer c = choice finest (upper c) (lower c) (d c)
+answer c = choice (upper c) (lower c) (d c)
 
-passes : (c : tie.Else1) → choiceRefusal finest (upper c) (lower c) (d c .level) (d c .q) ≡ 0
+passes : (c : tie.Else1) → choiceRefusal (d c .finest) (upper c) (lower c) (d c .level) (d c .q) ≡ 0
 passes c = sym (c .before .choice-refusal .ensures) ∙ c .if1 .left
 
-low : (c : tie.Else1) → d c .level ≤ finest
-low c = choice-opens finest (upper c) (lower c) _ _ (passes c) .1 .inside .level
+lies : (c : tie.Else1) → Inside (d c .finest) (d c .level) (d c .q)
+lies c = choice-opens (d c .finest) (upper c) (lower c) _ _ (passes c) .1 .inside
+
+low : (c : tie.Else1) → d c .level ≤ mostFinest
+low c = le-trans (lies c .level) (lies c .finest-most)
 
 -- as the borrow checker tells it of a drawing
 fits-x : (c : tie.Else1) → Fits32 (d c .x)
-fits-x c = told (c .before .before .good .0 .1 .1 .1 .1 .0 .1 .1)
+fits-x c = told (c .before .before .good .0 .1 .1 .1 .1 .1 .0 .1 .1)
 
 fits-y : (c : tie.Else1) → Fits32 (d c .y)
-fits-y c = told (c .before .before .good .0 .1 .1 .1 .1 .1 .0 .1 .1)
+fits-y c = told (c .before .before .good .0 .1 .1 .1 .1 .1 .1 .0 .1 .1)
+
+cast-upper : tie.Need-cast-upper
+cast-upper c = search needs
+
+cast-lower : tie.Need-cast-lower
+cast-lower c = search needs
 
 -- ---- rule 1
 
 increment-of-requires : tie.Need-increment-of-requires
-increment-of-requires c κs = low (c .before)
+increment-of-requires c κs = low (c .before .before .before)
 
 increment-of-requires-2 : tie.Need-increment-of-requires-2
-increment-of-requires-2 c κs = low (c .before .before .before)
+increment-of-requires-2 c κs = low (c .before .before .before .before .before)
 
 abbrev begun : tie.After-increment-of2 → tie.Else1
-begun c = c .before .before .before .before
+begun c = c .before .before .before .before .before .before
 
 x : (c : tie.After-increment-of2) → increment (d (begun c) .level) (d (begun c) .x) ≡ c .before .before .increment-of .result
 x c = sym (c .before .before .increment-of .ensures (d (begun c) .x) (sym (toZ-ofZ (fits-x (begun c) .c))))
@@ -81,12 +92,12 @@ returns-2 c = simp (passes (begun (c .before)), x (c .before), y (c .before), c 
 -- ---- rule 2
 
 rule-2 : (c : tie.Else2)
-    → let e = begun (c .before) in answer e ≡ says (cond (wantsDouble finest (upper e) (lower e) (d e .level) (d e .q) (λ k. of k (d e))) double step)
+    → let e = begun (c .before) in answer e ≡ says (cond (wantsDouble (d e .finest) (upper e) (lower e) (d e .level) (d e .q) (λ k. of k (d e))) double step)
 unfolding choice choose wantsHalve
 rule-2 c = simp (passes (begun (c .before)), x (c .before), y (c .before), c .if2 .left)
 
 is-aligned-requires : tie.Need-is-aligned-requires
-is-aligned-requires c κs = low (begun (c .before))
+is-aligned-requires c κs = let i = lies (begun (c .before)) in (i .finest-most, i .level)
 
 abbrev looked : tie.After-is-aligned → tie.Else1
 looked c = begun (c .before .before)
@@ -112,7 +123,7 @@ returns-3 c = sym (asked (c .before) ∙ simp (not-true (asks (c .before)) (c .i
 
 -- ---- the doubled increments
 
-may-double : (c : tie.Else3) → let e = looked (c .before) in (1 ≤ d e .level) × (d e .level ≤ finest)
+may-double : (c : tie.Else3) → let e = looked (c .before) in (1 ≤ d e .level) × (d e .level ≤ mostFinest)
 may-double c =
     let a = c .before in
     let e = looked a in (
@@ -154,6 +165,8 @@ next-spec =
     (tie.spec
     choice-refusal-requires
     returns
+    cast-upper
+    cast-lower
     increment-of-requires
     increment-of-requires-2
     returns-2

@@ -1,13 +1,19 @@
 -- A refusal gives zeros; otherwise the points are lawful, and the coordinates begin as `startRegisters` says.
 use mathlib.Core.Path.{_≡_, sym, _∙_}
+use mathlib.Core.Bool.{true}
+use Prim.Native.Nat.{_≤_}
+use native.Mathlib.Nat.{le-trans}
 use borrow.Author.Needs.{needs}
-use Rattle.rules.specs.Rules.{finest}
+use Rattle.rules.specs.Rules.{mostFinest, mostReach}
 use Rattle.rules.proofs.Refusals.{refuses}
-use Rattle.operations.specs.Coordinates.{in-x, in-y, in-width, pick}
+use Rattle.rules.proofs.Reaches.{reach-most}
+use Rattle.coordinate.specs.Points.{areCoordinates, areNear}
+use Rattle.coordinate.proofs.Points.{near-further}
+use Rattle.operations.specs.Coordinates.{Coordinate, in-x, in-y, in-width, pick}
 use Rattle.operations.specs.Refusals.{startRefusal}
 use Rattle.engine.specs.Drawing.{refused}
 use Rattle.engine.specs.Start.{nothingDrawn, started}
-use Rattle.engine.proofs.Accepted.{Accepted, accepted, start-begins}
+use Rattle.engine.proofs.Accepted.{accepted, start-begins}
 use Rattle.engine.proofs.Drawing.start.Statement.{statement}
 use Rattle.engine.proofs.Drawing.start.Tie as tie
 
@@ -27,20 +33,27 @@ returns c =
     ∙ (λ i. refused (c .before .nothing .ensures i) (c .before .before .before .start-refusal .result))
     ∙ refuses (refused nothingDrawn) _ (c .before .before .before .start-refusal .ensures) (c .before .before .if1 .taken)
 
-passes : (c : tie.Else1) → startRefusal finest (pick (c .before .before .args .x) (c .before .before .args .y) (c .before .before .args .width)) (c .before .before .args .level) ≡ 0
+passes : (c : tie.Else1) → let a = c .before .before .args in startRefusal (a .finest) (pick (a .x) (a .y) (a .width)) (a .level) ≡ 0
 passes c = sym (c .before .start-refusal .ensures) ∙ c .if1 .left
 
-ok : (c : tie.Else1) → Accepted finest (pick (c .before .before .args .x) (c .before .before .args .y) (c .before .before .args .width)) (c .before .before .args .level)
-ok c = accepted finest _ _ (passes c)
+-- what each coordinate's start requires
+ready : (c : tie.Else1) (k : Coordinate)
+    → let a = c .before .before .args in
+    let p = pick (a .x) (a .y) (a .width) k in
+    (a .level ≤ mostFinest) × (areCoordinates p ≡ true) × (areNear mostReach p ≡ true)
+ready c k =
+    let a = c .before .before .args in
+    let ok = accepted (a .finest) (pick (a .x) (a .y) (a .width)) (a .level) (passes c) in
+    (le-trans (ok .level) (ok .fine .most), ok .coordinates k, near-further (reach-most (a .finest)) _ (ok .near k))
 
 start-one-requires : tie.Need-start-one-requires
-start-one-requires c κs = (ok c .level, ok c .coordinates in-x, ok c .near in-x)
+start-one-requires c κs = ready c in-x
 
 start-one-requires-2 : tie.Need-start-one-requires-2
-start-one-requires-2 c κs = let k = ok (c .before) in (k .level, k .coordinates in-y, k .near in-y)
+start-one-requires-2 c κs = ready (c .before) in-y
 
 start-one-requires-3 : tie.Need-start-one-requires-3
-start-one-requires-3 c κs = let k = ok (c .before .before) in (k .level, k .coordinates in-width, k .near in-width)
+start-one-requires-3 c κs = ready (c .before .before) in-width
 
 returns-2 : tie.Need-returns-2
 returns-2 c =
@@ -48,6 +61,7 @@ returns-2 c =
     (λ i. record {
       refusal = 0;
       drawing = record {
+        finest = s .args .finest;
         level = s .args .level;
         q = 0;
         x = c .before .before .start-one .ensures i;
@@ -55,7 +69,7 @@ returns-2 c =
         width = c .start-one3 .ensures i;
       };
     })
-    ∙ sym (start-begins finest _ (s .args .level) (passes (c .before .before .before)))
+    ∙ sym (start-begins (s .args .finest) _ (s .args .level) (passes (c .before .before .before)))
 
 pub start-spec : {M : Type 1} → statement M
 start-spec =

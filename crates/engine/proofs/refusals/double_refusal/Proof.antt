@@ -5,7 +5,6 @@ use native.Mathlib.Omega.{arith}
 use lib.Dec.{ltb}
 use borrow.Author.Needs.{needs}
 use borrow.Author.Tests.{lt-ltb, not-true, not-false}
-use Rattle.rules.specs.Rules.{finest}
 use Rattle.rules.proofs.Refusals.{first-on, first-stop}
 use Rattle.operations.specs.Refusals.{gate, callRefusal}
 use Rattle.operations.proofs.Gates.{opens}
@@ -19,7 +18,7 @@ returns : tie.Need-returns
 unfolding callRefusal
 returns c = let g = c .before .gate .ensures in g ∙ sym (first-stop _ _ (λ z. c .if1 .taken (g ∙ z)))
 
-let-through : (c : tie.Else1) → gate finest (c .before .before .args .level) (c .before .before .args .q) ≡ 0
+let-through : (c : tie.Else1) → gate (c .before .before .args .finest) (c .before .before .args .level) (c .before .before .args .q) ≡ 0
 let-through c = sym (c .before .gate .ensures) ∙ c .if1 .left
 
 returns-2 : tie.Need-returns-2
@@ -30,7 +29,7 @@ above : (c : tie.Else2) → ltb 0 (c .before .before .before .args .level) ≡ t
 above c = lt-ltb 0 (c .before .before .before .args .level) (omega (arith, c .if2 .left))
 
 is-aligned-requires : tie.Need-is-aligned-requires
-is-aligned-requires c κs = opens _ _ _ (let-through (c .before)) .inside .level
+is-aligned-requires c κs = let i = opens _ _ _ (let-through (c .before)) .inside in (i .finest-most, i .level)
 
 returns-3 : tie.Need-returns-3
 unfolding callRefusal

@@ -2,7 +2,6 @@
 use mathlib.Core.Path.{_≡_, sym, _∙_}
 use borrow.Author.Needs.{needs}
 use borrow.Author.Tests.{le-ltb, lt-ltb}
-use Rattle.rules.specs.Rules.{finest}
 use Rattle.rules.proofs.Refusals.{first-on, first-stop}
 use Rattle.operations.specs.Refusals.{gate, callRefusal}
 use Rattle.engine.proofs.refusals.halve_refusal.Statement.{statement}
@@ -15,7 +14,7 @@ returns : tie.Need-returns
 unfolding callRefusal
 returns c = let g = c .before .gate .ensures in g ∙ sym (first-stop _ _ (λ z. c .if1 .taken (g ∙ z)))
 
-opens : (c : tie.Else1) → gate finest (c .before .before .args .level) (c .before .before .args .q) ≡ 0
+opens : (c : tie.Else1) → gate (c .before .before .args .finest) (c .before .before .args .level) (c .before .before .args .q) ≡ 0
 opens c = sym (c .before .gate .ensures) ∙ c .if1 .left
 
 returns-2 : tie.Need-returns-2

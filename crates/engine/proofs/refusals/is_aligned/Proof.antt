@@ -1,9 +1,8 @@
 -- The remainder by two strides.
-use Prim.Native.Nat.{_-_}
+use Prim.Native.Nat.{_-_, _^_, _≤_}
 use native.Mathlib.Omega.{arith}
-use lib.Pow.{pow-pos}
+use lib.Pow.{pow-pos, pow-mono}
 use borrow.Author.Needs.{needs}
-use Rattle.rules.specs.Rules.{finest}
 use Rattle.operations.specs.Position.{isAligned}
 use Rattle.operations.proofs.Gates.{stride-most}
 use Rattle.engine.proofs.refusals.is_aligned.Statement.{statement}
@@ -13,10 +12,13 @@ stride-requires : tie.Need-stride-requires
 stride-requires c κs = search needs
 
 mul-result : tie.Need-mul-result
-mul-result c = record { fits = omega (arith, c .stride .ensures, stride-most finest (c .before .args .level)) }
+mul-result c =
+    let a = c .before .args in
+    let end : 2 ^ a .finest ≤ 4096 = pow-mono {j = 12} (c .before .pre .0) in
+    record { fits = omega (arith, c .stride .ensures, stride-most (a .finest) (a .level)) }
 
 rem-result : tie.Need-rem-result
-rem-result c = rw (c .stride .ensures) (omega (arith, pow-pos (finest - c .before .args .level)))
+rem-result c = let a = c .before .args in rw (c .stride .ensures) (omega (arith, pow-pos (a .finest - a .level)))
 
 returns : tie.Need-returns
 unfolding isAligned

@@ -3,7 +3,7 @@ use mathlib.Core.Path.{ap₂, _∙_}
 use mathlib.Core.Bool.{_&&_}
 use mir.Facts.{toZ-ofZ}
 use borrow.Author.Needs.{needs}
-use Rattle.rules.specs.Rules.{reach, areNeighbours}
+use Rattle.rules.specs.Rules.{areNeighbours}
 use Rattle.coordinate.specs.Points.{areNear}
 use Rattle.engine.proofs.Fitting.{told}
 use Rattle.engine.proofs.starting.near.Statement.{statement}
@@ -21,10 +21,10 @@ neighbours-requires-3 c κs = search needs
 returns : tie.Need-returns
 unfolding areNear
 returns c =
-    let f = told (c .before .before .before .before .before .before .before .before .before .good .0 .1 .1) in
-    let e0 = c .before .before .before .before .before .before .neighbours .ensures ∙ ap₂ (areNeighbours reach) (toZ-ofZ (f .a)) (toZ-ofZ (f .b)) in
-    let e1 = c .before .before .before .neighbours2 .ensures ∙ ap₂ (areNeighbours reach) (toZ-ofZ (f .b)) (toZ-ofZ (f .c)) in
-    let e2 = c .neighbours3 .ensures ∙ ap₂ (areNeighbours reach) (toZ-ofZ (f .c)) (toZ-ofZ (f .d)) in
+    let f = told (c .before .before .before .before .before .before .before .before .before .good .1 .0 .1 .1) in
+    let e0 = c .before .before .before .before .before .before .neighbours .ensures ∙ ap₂ (areNeighbours _) (toZ-ofZ (f .a)) (toZ-ofZ (f .b)) in
+    let e1 = c .before .before .before .neighbours2 .ensures ∙ ap₂ (areNeighbours _) (toZ-ofZ (f .b)) (toZ-ofZ (f .c)) in
+    let e2 = c .neighbours3 .ensures ∙ ap₂ (areNeighbours _) (toZ-ofZ (f .c)) (toZ-ofZ (f .d)) in
     λ i. e0 i && e1 i && e2 i
 
 pub near-spec : {M : Type 1} → statement M

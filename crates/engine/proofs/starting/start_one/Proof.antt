@@ -7,7 +7,7 @@ use borrow.Author.Needs.{needs}
 use Rattle.numbers.proofs.Machine.{Num, known, tighter, literal, local, shift, plus, minus, times, fits}
 use Rattle.coordinate.specs.declared.Control.{Control}
 use Rattle.coordinate.specs.Registers.{_>>_, unit}
-use Rattle.rules.specs.Rules.{reach}
+use Rattle.rules.specs.Rules.{mostReach}
 use Rattle.coordinate.proofs.Points.{Extent, extent, Reach, reaches}
 use Rattle.coordinate.proofs.Start.{cubic, square, linear, reckoned-start}
 use Rattle.engine.proofs.starting.start_one.Statement.{statement}
@@ -22,8 +22,8 @@ n c = c .args .n
 at-points : (c : tie.Start) → Extent 16384 (p c)
 at-points c = extent (p c) (c .pre .1)
 
-of-steps : (c : tie.Start) → Reach reach (p c)
-of-steps c = reaches reach (p c) (c .pre .2)
+of-steps : (c : tie.Start) → Reach mostReach (p c)
+of-steps c = reaches mostReach (p c) (c .pre .2)
 
 -- ---- the numbers of the code
 
