@@ -60,36 +60,36 @@ halve-allowed F n q h k before =
 -- ---- the drawing
 
 module _ (F : ℕ) (f : Coordinate → Curve) (fits : (c : Coordinate) → Bounded F (f c)) (d : Drawing) (k : Kept F f d) where
-  pub double-undoes-halve : ruled F halve (d .level) (d .q) ≡ 0 → called F double (called F halve d .drawing) ≡ record { refusal = 0; drawing = d }
+  pub double-undoes-halve : ruled F halve (d .level) (d .q) ≡ 0 → called double (called halve d .drawing) ≡ record { refusal = 0; drawing = d }
   unfolding turned
   double-undoes-halve e =
       let n = d .level in
       let before = allowed F halve n (d .q) e .0 in
       let h = ltb-true n F (rule-kept (ltb n F) 5 0 (allowed F halve n (d .q) e .1) .0) in
-      let first : called F halve d ≡ record { refusal = 0; drawing = turned F halve d } =
-      call-settled F f fits d halve k ∙ ap (λ (m : ℕ). moved m d (turned F halve d)) e in
-      let again : called F double (turned F halve d) ≡ record { refusal = 0; drawing = turned F double (turned F halve d) } =
-      call-settled F f fits (turned F halve d) double (kept-turned F f d halve k e)
-      ∙ ap (λ (m : ℕ). moved m (turned F halve d) (turned F double (turned F halve d))) (double-allowed F n (k .below) (d .q) (k .on in-x .strides) (k .levels) h before (k .on in-x .whole)) in
+      let first : called halve d ≡ record { refusal = 0; drawing = turned halve d } =
+      call-settled F f fits d halve k ∙ ap (λ (m : ℕ). moved m d (turned halve d)) e in
+      let again : called double (turned halve d) ≡ record { refusal = 0; drawing = turned double (turned halve d) } =
+      call-settled F f fits (turned halve d) double (kept-turned F f d halve k e)
+      ∙ ap (λ (m : ℕ). moved m (turned halve d) (turned double (turned halve d))) (double-allowed F n (k .below) (d .q) (k .on in-x .strides) (k .levels) h before (k .on in-x .whole)) in
       let level : n + 1 - 1 ≡ n = omega arith in
       let same : (c : Coordinate) → turn double (n + 1) (turn halve n (of c d)) ≡ of c d = λ c. double-halved F (f c) n (k .below) (d .q) (of c d) (k .levels) h (k .on c) in
-      ap (λ (m : Moved). called F double (m .drawing)) first
+      ap (λ (m : Moved). called double (m .drawing)) first
       ∙ again
-      ∙ (λ i. record { refusal = 0; drawing = record { level = level i; q = d .q; x = same in-x i; y = same in-y i; width = same in-width i } })
+      ∙ (λ i. record { refusal = 0; drawing = record { finest = d .finest; level = level i; q = d .q; x = same in-x i; y = same in-y i; width = same in-width i } })
 
-  pub halve-undoes-double : ruled F double (d .level) (d .q) ≡ 0 → called F halve (called F double d .drawing) ≡ record { refusal = 0; drawing = d }
+  pub halve-undoes-double : ruled F double (d .level) (d .q) ≡ 0 → called halve (called double d .drawing) ≡ record { refusal = 0; drawing = d }
   unfolding turned
   halve-undoes-double e =
       let n = d .level in
       let before = allowed F double n (d .q) e .0 in
       let h = ltb-true 0 n (rule-kept (ltb 0 n) 6 (unless (isAligned F n (d .q)) 8 0) (allowed F double n (d .q) e .1) .0) in
-      let first : called F double d ≡ record { refusal = 0; drawing = turned F double d } =
-      call-settled F f fits d double k ∙ ap (λ (m : ℕ). moved m d (turned F double d)) e in
-      let again : called F halve (turned F double d) ≡ record { refusal = 0; drawing = turned F halve (turned F double d) } =
-      call-settled F f fits (turned F double d) halve (kept-turned F f d double k e)
-      ∙ ap (λ (m : ℕ). moved m (turned F double d) (turned F halve (turned F double d))) (halve-allowed F n (d .q) h (omega (arith, k .levels)) before) in
+      let first : called double d ≡ record { refusal = 0; drawing = turned double d } =
+      call-settled F f fits d double k ∙ ap (λ (m : ℕ). moved m d (turned double d)) e in
+      let again : called halve (turned double d) ≡ record { refusal = 0; drawing = turned halve (turned double d) } =
+      call-settled F f fits (turned double d) halve (kept-turned F f d double k e)
+      ∙ ap (λ (m : ℕ). moved m (turned double d) (turned halve (turned double d))) (halve-allowed F n (d .q) h (omega (arith, k .levels)) before) in
       let level : n - 1 + 1 ≡ n = omega arith in
       let same : (c : Coordinate) → turn halve (n - 1) (turn double n (of c d)) ≡ of c d = λ c. halve-doubled n (of c d) h in
-      ap (λ (m : Moved). called F halve (m .drawing)) first
+      ap (λ (m : Moved). called halve (m .drawing)) first
       ∙ again
-      ∙ (λ i. record { refusal = 0; drawing = record { level = level i; q = d .q; x = same in-x i; y = same in-y i; width = same in-width i } })
+      ∙ (λ i. record { refusal = 0; drawing = record { finest = d .finest; level = level i; q = d .q; x = same in-x i; y = same in-y i; width = same in-width i } })

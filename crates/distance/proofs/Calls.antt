@@ -4,8 +4,10 @@ use mathlib.Core.Bool.{Bool, cond}
 use mathlib.Core.List.{List, [], _∷_, _++_}
 use Prim.Native.Nat.{ℕ, zero, suc, _+_, _-_, _*_, _^_, _≤_}
 use native.Mathlib.Nat.{add-zero, add-assoc, add-sub-of-le}
+use native.Mathlib.Omega.{arith}
 use lib.Dec.{eqb, eqb·suc-zero}
 use lib.Pow.{pow-add}
+use Rattle.rules.proofs.Laws.{Fine}
 use Rattle.operations.specs.Coordinates.{Coordinate}
 use Rattle.operations.specs.Position.{stride}
 use Rattle.engine.specs.declared.Drawing.{Drawing}
@@ -24,31 +26,37 @@ use Rattle.distance.proofs.Kept.{Kept, kept-turned, call-settled}
 
 -- ---- the start
 
-pub first-kept : (F : ℕ) (p : Coordinate → Course) (n : ℕ) → F ≤ 16 → n ≤ F → Kept F (λ c. p c .curve) (firstDrawing p n)
-first-kept F p n h l =
+pub first-kept : (F : ℕ) (p : Coordinate → Course) (n : ℕ) → Fine F → n ≤ F → Kept F (λ c. p c .curve) (firstDrawing F p n)
+first-kept F p n f l =
     let levels : n + (F - n) ≡ F = add-sub-of-le l in
     let G : 2 ^ F ≡ 2 ^ n * 2 ^ (F - n) = ap (λ (k : ℕ). 2 ^ k) (sym levels) ∙ pow-add 2 n (F - n) in
-    record { below = F - n; levels = levels; on = λ c. rw (first-of p n c) (start-on (2 ^ (16 - F)) (2 ^ F) (p c .curve) n (F - n) (scale F h) G) }
+    record {
+      fine = f;
+      finest = refl;
+      below = F - n;
+      levels = levels;
+      on = λ c. rw (first-of F p n c) (start-on (2 ^ (16 - F)) (2 ^ F) (p c .curve) n (F - n) (scale F (omega (arith, f .most))) G);
+    }
 
 -- ---- one call and lists of calls
 
-pub after-one : (F : ℕ) (ops : List Operation) (op : Operation) (d : Drawing) → after F (ops ++ op ∷ []) d ≡ called F op (after F ops d) .drawing
-after-one F [] op d = refl
-after-one F (o ∷ ops) op d = after-one F ops op (called F o d .drawing)
+pub after-one : (ops : List Operation) (op : Operation) (d : Drawing) → after (ops ++ op ∷ []) d ≡ called op (after ops d) .drawing
+after-one [] op d = refl
+after-one (o ∷ ops) op d = after-one ops op (called o d .drawing)
 
 module _ (F : ℕ) (f : Coordinate → Curve) (fits : (c : Coordinate) → Bounded F (f c)) where
   moved-kept : (k : ℕ) (old new : Drawing) → Kept F f old → (k ≡ 0 → Kept F f new) → Kept F f (moved k old new .drawing)
   moved-kept zero old new h g = g refl
   moved-kept (suc k) old new h g = h
 
-  call-kept : (d : Drawing) (op : Operation) → Kept F f d → Kept F f (called F op d .drawing)
+  call-kept : (d : Drawing) (op : Operation) → Kept F f d → Kept F f (called op d .drawing)
   call-kept d op k =
       subst (λ (m : Moved). Kept F f (m .drawing)) (sym (call-settled F f fits d op k))
-      (moved-kept (ruled F op (d .level) (d .q)) d (turned F op d) k (kept-turned F f d op k))
+      (moved-kept (ruled F op (d .level) (d .q)) d (turned op d) k (kept-turned F f d op k))
 
-  pub after-kept : (ops : List Operation) (d : Drawing) → Kept F f d → Kept F f (after F ops d)
+  pub after-kept : (ops : List Operation) (d : Drawing) → Kept F f d → Kept F f (after ops d)
   after-kept [] d k = k
-  after-kept (op ∷ ops) d k = after-kept ops (called F op d .drawing) (call-kept d op k)
+  after-kept (op ∷ ops) d k = after-kept ops (called op d .drawing) (call-kept d op k)
 
   -- a call adds its gain to q
   moved-still : (k : ℕ) (old new : Drawing) → new .q ≡ old .q → moved k old new .drawing .q ≡ old .q + 0
@@ -60,15 +68,15 @@ module _ (F : ℕ) (f : Coordinate → Curve) (fits : (c : Coordinate) → Bound
   moved-gain zero s old new e = e
   moved-gain (suc k) s old new e = sym (add-zero (old .q)) ∙ ap (λ (b : Bool). old .q + cond b s 0) (sym (eqb·suc-zero k))
 
-  call-gain : (d : Drawing) (op : Operation) → Kept F f d → called F op d .drawing .q ≡ d .q + gain F op d
+  call-gain : (d : Drawing) (op : Operation) → Kept F f d → called op d .drawing .q ≡ d .q + gain op d
   unfolding turned
-  call-gain d halve k = rw (call-settled F f fits d halve k) (moved-still (ruled F halve (d .level) (d .q)) d (turned F halve d) refl)
-  call-gain d double k = rw (call-settled F f fits d double k) (moved-still (ruled F double (d .level) (d .q)) d (turned F double d) refl)
-  call-gain d step k = rw (call-settled F f fits d step k) (moved-gain (ruled F step (d .level) (d .q)) (stride F (d .level)) d (turned F step d) refl)
+  call-gain d halve k = rw (call-settled F f fits d halve k) (moved-still (ruled F halve (d .level) (d .q)) d (turned halve d) refl)
+  call-gain d double k = rw (call-settled F f fits d double k) (moved-still (ruled F double (d .level) (d .q)) d (turned double d) refl)
+  call-gain d step k = rw (call-settled F f fits d step k) (moved-gain (ruled F step (d .level) (d .q)) (stride (d .finest) (d .level)) d (turned step d) refl)
 
-  pub after-travelled : (ops : List Operation) (d : Drawing) → Kept F f d → after F ops d .q ≡ d .q + travelled F ops d
+  pub after-travelled : (ops : List Operation) (d : Drawing) → Kept F f d → after ops d .q ≡ d .q + travelled ops d
   after-travelled [] d k = sym (add-zero (d .q))
   after-travelled (op ∷ ops) d k =
-      after-travelled ops (called F op d .drawing) (call-kept d op k)
-      ∙ ap (λ (t : ℕ). t + travelled F ops (called F op d .drawing)) (call-gain d op k)
-      ∙ add-assoc (d .q) (gain F op d) (travelled F ops (called F op d .drawing))
+      after-travelled ops (called op d .drawing) (call-kept d op k)
+      ∙ ap (λ (t : ℕ). t + travelled ops (called op d .drawing)) (call-gain d op k)
+      ∙ add-assoc (d .q) (gain op d) (travelled ops (called op d .drawing))

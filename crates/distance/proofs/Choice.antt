@@ -1,5 +1,5 @@
 -- The operation that choosing names is never refused in a drawing that keeps the invariant, under any lawful limits.
-use mathlib.Core.Path.{_≡_, ap, _∙_}
+use mathlib.Core.Path.{_≡_, sym, ap, _∙_, subst}
 use mathlib.Core.Bool.{true}
 use Prim.Native.Nat.{ℕ, _-_, _*_, _%_, _^_, _<_}
 use borrow.Author.Tests.{lt-ltb, eq-eqb}
@@ -18,9 +18,10 @@ use Rattle.coordinate.proofs.Stands.{Bounded}
 use Rattle.distance.proofs.Kept.{Kept, kept-inside, call-settled}
 
 -- of any drawing before its end
-pub chosen-ruled : (F upper lower : ℕ) (d : Drawing) → d .q < 2 ^ F → ruled F (chosen F upper lower d) (d .level) (d .q) ≡ 0
+pub chosen-ruled : (upper lower : ℕ) (d : Drawing) → d .q < 2 ^ d .finest → ruled (d .finest) (chosen upper lower d) (d .level) (d .q) ≡ 0
 unfolding ruled
-chosen-ruled F upper lower d h =
+chosen-ruled upper lower d h =
+    let F = d .finest in
     let end = lt-ltb (d .q) (2 ^ F) h in
     by-rules F upper lower (d .level) (d .q) (λ c. of c d) (λ (op : Operation). ruled F op (d .level) (d .q) ≡ 0)
     (λ w. let below = lt-ltb (d .level) F (w .below) in λ i. unless (end i) 5 (unless (below i) 6 0))
@@ -31,14 +32,21 @@ chosen-ruled F upper lower d h =
     (λ h g i. unless (end i) 5 0)
 
 module _ (F : ℕ) (f : Coordinate → Curve) (d : Drawing) (k : Kept F f d) (upper lower : ℕ) where
-  pub choice-answers : areLimits upper lower ≡ true → d .q < 2 ^ F → choice F upper lower d ≡ says (chosen F upper lower d)
+  -- what is chosen before the end is allowed
+  pub kept-chosen : d .q < 2 ^ F → ruled F (chosen upper lower d) (d .level) (d .q) ≡ 0
+  kept-chosen h =
+      subst (λ (G : ℕ). ruled G (chosen upper lower d) (d .level) (d .q) ≡ 0) (k .finest)
+      (chosen-ruled upper lower d (subst (λ (G : ℕ). d .q < 2 ^ G) (sym (k .finest)) h))
+
+  pub choice-answers : areLimits upper lower ≡ true → d .q < 2 ^ F → choice upper lower d ≡ says (chosen upper lower d)
   unfolding choice choiceRefusal gate
   choice-answers l h =
       let inside = kept-inside F f d k in
       let end = lt-ltb (d .q) (2 ^ F) h in
-      λ i. refusalOr (unless (l i) 4 (unless (inside i) 10 (unless (end i) 5 0))) refusedBy (says (chosen F upper lower d))
+      ap (λ (G : ℕ). refusalOr (choiceRefusal G upper lower (d .level) (d .q)) refusedBy (says (chosen upper lower d))) (k .finest)
+      ∙ (λ i. refusalOr (unless (l i) 4 (unless (inside i) 10 (unless (end i) 5 0))) refusedBy (says (chosen upper lower d)))
 
-  pub chosen-accepted : ((c : Coordinate) → Bounded F (f c)) → d .q < 2 ^ F → called F (chosen F upper lower d) d ≡ record { refusal = 0; drawing = turned F (chosen F upper lower d) d }
+  pub chosen-accepted : ((c : Coordinate) → Bounded F (f c)) → d .q < 2 ^ F → called (chosen upper lower d) d ≡ record { refusal = 0; drawing = turned (chosen upper lower d) d }
   chosen-accepted fits h =
-      let op = chosen F upper lower d in
-      call-settled F f fits d op k ∙ ap (λ (m : ℕ). moved m d (turned F op d)) (chosen-ruled F upper lower d h)
+      let op = chosen upper lower d in
+      call-settled F f fits d op k ∙ ap (λ (m : ℕ). moved m d (turned op d)) (kept-chosen h)

@@ -3,14 +3,14 @@ use mathlib.Core.Path.{_≡_, refl, sym, ap, _∙_}
 use mathlib.Core.Bool.{true}
 use mathlib.Core.List.{List}
 use Prim.Native.Nat.{ℕ, zero, suc, _^_, _≤_, _<_}
-use native.Mathlib.Nat.{zero-add, le-refl}
+use native.Mathlib.Nat.{zero-add}
 use native.Mathlib.Omega.{arith}
-use lib.Dec.{lit≤}
-use Rattle.rules.specs.Rules.{finest, reach, areLimits}
+use Rattle.rules.specs.Rules.{reach, areLimits}
+use Rattle.rules.proofs.Laws.{Fine}
+use Rattle.rules.proofs.Reaches.{reach-most, reach-room}
 use Rattle.coordinate.specs.declared.Control.{Control}
 use Rattle.coordinate.specs.Course.{Course, cubic}
 use Rattle.coordinate.specs.Registers.{Operation, halve, double, areRegisters}
-use Rattle.coordinate.specs.Stands.{InNumbers}
 use Rattle.coordinate.proofs.Points.{extent, reaches}
 use Rattle.coordinate.proofs.Sizes.{Tame}
 use Rattle.coordinate.proofs.Cubic.{cubic-tame}
@@ -18,6 +18,7 @@ use Rattle.coordinate.proofs.Stands.{Bounded, bounded, stands}
 use Rattle.coordinate.proofs.Stands as coordinate
 use Rattle.operations.specs.Coordinates.{Coordinate}
 use Rattle.operations.specs.Refusals.{startRefusal}
+use Rattle.operations.proofs.Gates.{inside}
 use Rattle.engine.specs.declared.Drawing.{Drawing}
 use Rattle.engine.specs.declared.Moved.{Moved}
 use Rattle.engine.specs.Drawing.{of, turned, moved, called}
@@ -25,7 +26,7 @@ use Rattle.engine.specs.Start.{firstDrawing, started}
 use Rattle.engine.specs.Choice.{chosen}
 use Rattle.engine.proofs.Accepted.{Accepted, accepted, start-begins}
 use Rattle.distance.specs.Calls.{after, travelled, ruled}
-use Rattle.distance.specs.Demand3.{Fine, Goes, Demand3}
+use Rattle.distance.specs.Demand3.{Goes, Demand3, Eleven}
 use Rattle.distance.proofs.Kept.{Kept, kept-inside, kept-fits, kept-turned, call-settled}
 use Rattle.distance.proofs.Calls.{first-kept, after-kept, after-travelled}
 use Rattle.distance.proofs.Back.{double-undoes-halve, halve-undoes-double}
@@ -34,21 +35,19 @@ use Rattle.distance.proofs.Choice.{choice-answers, chosen-accepted}
 -- ---- a drawing that was reached
 
 pub record Reached (F : ℕ) (p : Coordinate → Course) (d : Drawing) (along : ℕ) : Type 0 where
-  pub most : F ≤ 12
   pub tame : (c : Coordinate) → Tame F (p c)
   pub kept : Kept F (λ c. p c .curve) d
   pub parameter : d .q ≡ along
 
-pub reached : (F : ℕ) (p : Coordinate → Course) (n : ℕ) → F ≤ 12 → n ≤ F → ((c : Coordinate) → Tame F (p c)) → (ops : List Operation)
-    → Reached F p (after F ops (firstDrawing p n)) (travelled F ops (firstDrawing p n))
-reached F p n h l tame ops =
-    let fits : (c : Coordinate) → Bounded F (p c .curve) = λ c. bounded F (p c) h (tame c) in
-    let k = first-kept F p n (omega arith) l in
+pub reached : (F : ℕ) (p : Coordinate → Course) (n : ℕ) → Fine F → n ≤ F → ((c : Coordinate) → Tame F (p c)) → (ops : List Operation)
+    → Reached F p (after ops (firstDrawing F p n)) (travelled ops (firstDrawing F p n))
+reached F p n f l tame ops =
+    let fits : (c : Coordinate) → Bounded F (p c .curve) = λ c. bounded F (p c) (f .most) (tame c) in
+    let k = first-kept F p n f l in
     record {
-      most = h;
       tame = tame;
-      kept = after-kept F (λ c. p c .curve) fits ops (firstDrawing p n) k;
-      parameter = after-travelled F (λ c. p c .curve) fits ops (firstDrawing p n) k ∙ zero-add (travelled F ops (firstDrawing p n));
+      kept = after-kept F (λ c. p c .curve) fits ops (firstDrawing F p n) k;
+      parameter = after-travelled F (λ c. p c .curve) fits ops (firstDrawing F p n) k ∙ zero-add (travelled ops (firstDrawing F p n));
     }
 
 -- ---- demand 3 holds of it
@@ -59,22 +58,22 @@ moved-zero (suc k) old new e = e
 
 module _ (F : ℕ) (p : Coordinate → Course) (d : Drawing) (along : ℕ) (r : Reached F p d along) where
   fits : (c : Coordinate) → Bounded F (p c .curve)
-  fits c = bounded F (p c) (r .most) (r .tame c)
+  fits c = bounded F (p c) (r .kept .fine .most) (r .tame c)
 
-  settles : (op : Operation) → called F op d ≡ moved (ruled F op (d .level) (d .q)) d (turned F op d)
+  settles : (op : Operation) → called op d ≡ moved (ruled F op (d .level) (d .q)) d (turned op d)
   settles op = call-settled F (λ c. p c .curve) fits d op (r .kept)
 
-  by-rule : (op : Operation) → called F op d .refusal ≡ 0 → ruled F op (d .level) (d .q) ≡ 0
+  by-rule : (op : Operation) → called op d .refusal ≡ 0 → ruled F op (d .level) (d .q) ≡ 0
   by-rule op e =
-      moved-zero (ruled F op (d .level) (d .q)) d (turned F op d) (ap (λ (m : Moved). m .refusal) (sym (settles op)) ∙ e)
+      moved-zero (ruled F op (d .level) (d .q)) d (turned op d) (ap (λ (m : Moved). m .refusal) (sym (settles op)) ∙ e)
 
-  fit : (op : Operation) → ruled F op (d .level) (d .q) ≡ 0 → (c : Coordinate) → areRegisters (of c (turned F op d)) ≡ true
-  fit op e = kept-fits F (λ c. p c .curve) fits (turned F op d) (kept-turned F (λ c. p c .curve) d op (r .kept) e)
+  fit : (op : Operation) → ruled F op (d .level) (d .q) ≡ 0 → (c : Coordinate) → areRegisters (of c (turned op d)) ≡ true
+  fit op e = kept-fits F (λ c. p c .curve) fits (turned op d) (kept-turned F (λ c. p c .curve) d op (r .kept) e)
 
-  next-goes : (upper lower : ℕ) → areLimits upper lower ≡ true → d .q < 2 ^ F → Goes F d upper lower
+  next-goes : (upper lower : ℕ) → areLimits upper lower ≡ true → d .q < 2 ^ F → Goes d upper lower
   next-goes upper lower l h =
       record {
-        operation = chosen F upper lower d;
+        operation = chosen upper lower d;
         named = choice-answers F (λ c. p c .curve) d (r .kept) upper lower l h;
         accepted = ap (λ (m : Moved). m .refusal) (chosen-accepted F (λ c. p c .curve) d (r .kept) upper lower fits h);
       }
@@ -83,9 +82,10 @@ module _ (F : ℕ) (p : Coordinate → Course) (d : Drawing) (along : ℕ) (r : 
   meets =
       let k = r .kept in
       record {
+        finest = k .finest;
         parameter = r .parameter;
         inside = kept-inside F (λ c. p c .curve) d k;
-        stands = λ c. stands F (p c) (d .level) (k .below) (d .q) (of c d) (r .most) (r .tame c) (k .on c);
+        stands = λ c. stands F (p c) (d .level) (k .below) (d .q) (of c d) (k .fine .most) (r .tame c) (k .on c);
         call = settles;
         new = fit;
         back = λ e. double-undoes-halve F (λ c. p c .curve) fits d k (by-rule halve e);
@@ -95,22 +95,28 @@ module _ (F : ℕ) (p : Coordinate → Course) (d : Drawing) (along : ℕ) (r : 
 
 -- ---- from an accepted start
 
-pub start-tame : (F : ℕ) (p : Coordinate → Control) (n : ℕ) → Fine F → Accepted F p n → (c : Coordinate) → Tame F (cubic (p c))
-start-tame F p n f a c =
-    cubic-tame F reach (p c) (omega (arith, f .most)) (le-refl reach) (f .room) (extent (p c) (a .coordinates c)) (reaches reach (p c) (a .near c))
+pub start-tame : (F : ℕ) (p : Coordinate → Control) (n : ℕ) → Accepted F p n → (c : Coordinate) → Tame F (cubic (p c))
+start-tame F p n a c =
+    cubic-tame F (reach F) (p c) (omega (arith, a .fine .most)) (reach-most F) (reach-room F (a .fine)) (extent (p c) (a .coordinates c))
+    (reaches (reach F) (p c) (a .near c))
 
-pub demand-3 : (F : ℕ) (p : Coordinate → Control) (n : ℕ) → Fine F → startRefusal F p n ≡ 0 → (ops : List Operation)
-    → Demand3 F (λ c. cubic (p c)) (after F ops (started F p n .drawing)) (travelled F ops (started F p n .drawing))
-demand-3 F p n f e ops =
+pub demand-3 : (F : ℕ) (p : Coordinate → Control) (n : ℕ) → startRefusal F p n ≡ 0 → (ops : List Operation)
+    → Demand3 F (λ c. cubic (p c)) (after ops (started F p n .drawing)) (travelled ops (started F p n .drawing))
+demand-3 F p n e ops =
     let a = accepted F p n e in
-    rw (start-begins F p n e) (meets F (λ c. cubic (p c)) _ _ (reached F (λ c. cubic (p c)) n (f .most) (a .level) (start-tame F p n f a) ops))
+    rw (start-begins F p n e) (meets F (λ c. cubic (p c)) _ _ (reached F (λ c. cubic (p c)) n (a .fine) (a .level) (start-tame F p n a) ops))
 
 -- ---- in the demand's own numbers
 
-pub fine : Fine finest
-fine = record { most = lit≤ tt; room = lit≤ tt }
-
-pub in-numbers : (p : Coordinate → Control) (n : ℕ) → startRefusal 11 p n ≡ 0 → (ops : List Operation) → (c : Coordinate)
-    → let there = after 11 ops (started 11 p n .drawing) in InNumbers (p c) (there .q) (of c there)
-in-numbers p n e ops c =
-    coordinate.in-numbers (p c) _ _ (demand-3 11 p n fine e ops .stands c)
+pub in-numbers : (p : Coordinate → Control) (n : ℕ) → startRefusal 11 p n ≡ 0 → (ops : List Operation)
+    → Eleven p (after ops (started 11 p n .drawing)) (travelled ops (started 11 p n .drawing))
+in-numbers p n e ops =
+    let t = demand-3 11 p n e ops in
+    let i = inside 11 _ _ (t .inside) in
+    record {
+      finest = t .finest;
+      parameter = t .parameter;
+      level = i .level;
+      position = i .position;
+      stands = λ c. coordinate.in-numbers (p c) _ _ (t .stands c);
+    }

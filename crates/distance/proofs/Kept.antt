@@ -10,6 +10,7 @@ use lib.Dec.{ltb}
 use borrow.Author.Tests.{ltb-true, eqb-true}
 use Rattle.numbers.proofs.Multiples.{multiple}
 use Rattle.rules.specs.Refusals.{unless, firstOf}
+use Rattle.rules.proofs.Laws.{Fine}
 use Rattle.rules.proofs.Refusals.{rule-kept}
 use Rattle.coordinate.specs.declared.Registers.{Registers}
 use Rattle.coordinate.specs.Curve.{Curve}
@@ -27,8 +28,10 @@ use Rattle.engine.specs.Drawing.{of, turned, moved, called}
 use Rattle.engine.proofs.Each.{turned-of}
 use Rattle.distance.specs.Calls.{ruled}
 
--- `below` finer levels are left
+-- at finest level F; `below` finer levels are left
 pub record Kept (F : ℕ) (f : Coordinate → Curve) (d : Drawing) : Type 0 where
+  pub fine : Fine F
+  pub finest : d .finest ≡ F
   pub below : ℕ
   pub levels : d .level + below ≡ F
   pub on : (c : Coordinate) → At F (f c) (d .level) below (d .q) (of c d)
@@ -45,7 +48,14 @@ pub kept-inside : (F : ℕ) (f : Coordinate → Curve) (d : Drawing) → Kept F 
 kept-inside F f d k =
     let whole : d .q % stride F (d .level) ≡ 0 =
     ap₂ (λ (u v : ℕ). u % v) (k .on in-x .whole) (stride-below F (d .level) (k .below) (k .levels)) ∙ mul-mod-left (k .on in-x .strides) (2 ^ k .below) in
-    is-drawing F (d .level) (d .q) (record { level = omega (arith, k .levels); position = k .on in-x .within; whole = whole })
+    is-drawing F (d .level) (d .q)
+    (record {
+      finest-least = k .fine .least;
+      finest-most = k .fine .most;
+      level = omega (arith, k .levels);
+      position = k .on in-x .within;
+      whole = whole;
+    })
 
 -- the document's numbers are those of the operations' own refusals
 pub ruled-own : (F : ℕ) (op : Operation) (n q : ℕ) → ruled F op n q ≡ unless (ltb q (2 ^ F)) 5 (ownRefusal F op n q)
@@ -54,10 +64,12 @@ ruled-own F halve n q = refl
 ruled-own F double n q = refl
 ruled-own F step n q = refl
 
-pub kept-ruled : (F : ℕ) (f : Coordinate → Curve) (d : Drawing) (op : Operation) → Kept F f d → callRefusal F op (d .level) (d .q) ≡ ruled F op (d .level) (d .q)
+pub kept-ruled : (F : ℕ) (f : Coordinate → Curve) (d : Drawing) (op : Operation) → Kept F f d
+    → callRefusal (d .finest) op (d .level) (d .q) ≡ ruled F op (d .level) (d .q)
 unfolding callRefusal gate
 kept-ruled F f d op k =
-    ap (λ (b : Bool). firstOf (unless b 10 (unless (ltb (d .q) (2 ^ F)) 5 0)) (ownRefusal F op (d .level) (d .q))) (kept-inside F f d k)
+    ap (λ (G : ℕ). callRefusal G op (d .level) (d .q)) (k .finest)
+    ∙ ap (λ (b : Bool). firstOf (unless b 10 (unless (ltb (d .q) (2 ^ F)) 5 0)) (ownRefusal F op (d .level) (d .q))) (kept-inside F f d k)
     ∙ by-test (ltb (d .q) (2 ^ F))
     ∙ sym (ruled-own F op (d .level) (d .q))
   where
@@ -87,14 +99,16 @@ double-at F f (suc n) j q m r h e o =
     subst (λ (l : ℕ). At F f l (suc j) q (turn double (suc n) r)) (sym (less-one n))
     (double-on (2 ^ (16 - F)) (2 ^ F) f n j q m r (e ∙ ap (λ (t : ℕ). m * t) (sym (pow-succ' 2 j))) o)
 
-at-turned : (F : ℕ) (op : Operation) (d : Drawing) (g : Curve) (n j q : ℕ) (c : Coordinate) → At F g n j q (turn op (d .level) (of c d)) → At F g n j q (of c (turned F op d))
-at-turned F op d g n j q c = subst (At F g n j q) (sym (turned-of F op d c))
+at-turned : (F : ℕ) (op : Operation) (d : Drawing) (g : Curve) (n j q : ℕ) (c : Coordinate) → At F g n j q (turn op (d .level) (of c d)) → At F g n j q (of c (turned op d))
+at-turned F op d g n j q c = subst (At F g n j q) (sym (turned-of op d c))
 
-pub kept-turned : (F : ℕ) (f : Coordinate → Curve) (d : Drawing) (op : Operation) → Kept F f d → ruled F op (d .level) (d .q) ≡ 0 → Kept F f (turned F op d)
+pub kept-turned : (F : ℕ) (f : Coordinate → Curve) (d : Drawing) (op : Operation) → Kept F f d → ruled F op (d .level) (d .q) ≡ 0 → Kept F f (turned op d)
 unfolding turned isAligned
 kept-turned F f d halve k e =
     let h = ltb-true (d .level) F (rule-kept (ltb (d .level) F) 5 0 (allowed F halve (d .level) (d .q) e .1) .0) in
     record {
+      fine = k .fine;
+      finest = k .finest;
       below = k .below - 1;
       levels = omega (arith, k .levels);
       on = λ c. at-turned F halve d (f c) _ _ _ c (halve-at F (f c) (d .level) (k .below) (d .q) (of c d) (k .levels) h (k .on c));
@@ -107,14 +121,19 @@ kept-turned F f d double k e =
     let even = eqb-true (d .q % two) 0 (rule-kept (isAligned F (d .level) (d .q)) 7 0 (r .1) .0) in
     let twice : d .q ≡ d .q / two * (2 * 2 ^ k .below) = multiple (d .q) two even ∙ ap (λ (t : ℕ). d .q / two * (2 * t)) s in
     record {
+      fine = k .fine;
+      finest = k .finest;
       below = suc (k .below);
       levels = omega (arith, k .levels);
       on = λ c. at-turned F double d (f c) _ _ _ c (double-at F (f c) (d .level) (k .below) (d .q) (d .q / two) (of c d) h twice (k .on c));
     }
 kept-turned F f d step k e =
     let h = allowed F step (d .level) (d .q) e .0 in
-    let s = stride-below F (d .level) (k .below) (k .levels) in
+    let s : stride (d .finest) (d .level) ≡ 2 ^ k .below =
+    ap (λ (G : ℕ). stride G (d .level)) (k .finest) ∙ stride-below F (d .level) (k .below) (k .levels) in
     record {
+      fine = k .fine;
+      finest = k .finest;
       below = k .below;
       levels = k .levels;
       on = λ c. at-turned F step d (f c) _ _ _ c (rw s (step-on (2 ^ (16 - F)) (2 ^ F) (f c) (d .level) (k .below) (d .q) (of c d) (k .on c) h));
@@ -136,9 +155,9 @@ module _ (F : ℕ) (f : Coordinate → Curve) (fits : (c : Coordinate) → Bound
   call-ruled zero new h = registers-kept new (h refl)
   call-ruled (suc k) new h = refl
 
-  pub call-settled : (d : Drawing) (op : Operation) → Kept F f d → called F op d ≡ moved (ruled F op (d .level) (d .q)) d (turned F op d)
+  pub call-settled : (d : Drawing) (op : Operation) → Kept F f d → called op d ≡ moved (ruled F op (d .level) (d .q)) d (turned op d)
   unfolding called
   call-settled d op k =
-      ap (λ (m : ℕ). moved m d (turned F op d))
-      (ap (λ (m : ℕ). firstOf m (registersRefusal (λ c. of c (turned F op d)))) (kept-ruled F f d op k)
-      ∙ call-ruled (ruled F op (d .level) (d .q)) (turned F op d) (kept-turned F f d op k))
+      ap (λ (m : ℕ). moved m d (turned op d))
+      (ap (λ (m : ℕ). firstOf m (registersRefusal (λ c. of c (turned op d)))) (kept-ruled F f d op k)
+      ∙ call-ruled (ruled F op (d .level) (d .q)) (turned op d) (kept-turned F f d op k))
