@@ -6,9 +6,9 @@ use native.Mathlib.Omega.{arith}
 use lib.IntN.{pos}
 use lib.ListN.{length, getD}
 use borrow.Author.Tests.{leb-true, le-leb}
-use Rattle.rules.specs.Rules.{isCoordinate, areNeighbours, reach, isLevel, areLimits, degree, coordinates, isSize, arePoints, areChained, pointsRefusal}
+use Rattle.rules.specs.Rules.{isFinest, isCoordinate, areNeighbours, reach, isLevel, areLimits, degree, coordinates, isSize, arePoints, areChained, pointsRefusal}
 use Rattle.rules.proofs.Refusals.{rule-kept, first-kept}
-use Rattle.rules.proofs.Laws.{coordinate-range, range-coordinate, neighbours-size, limits-hold, hold-limits, Sized, size-holds, holds-size}
+use Rattle.rules.proofs.Laws.{finest-holds, holds-finest, coordinate-range, range-coordinate, neighbours-size, limits-hold, hold-limits, Sized, size-holds, holds-size}
 use Rattle.rules.proofs.Every.{points-hold, hold-points, chained-hold, hold-chained}
 use Rattle.coordinate.specs.Points.{areCoordinates, areNear}
 use Rattle.operations.specs.Coordinates.{Coordinate, in-x, in-y, in-width}
@@ -17,32 +17,41 @@ use Rattle.operations.proofs.Every.{true-every}
 use Rattle.path.specs.Path.{Path, pathRefusal, pointAt, place, control, controls}
 use Rattle.path.specs.Lawful.{Lawful}
 
--- ---- the five tests
+-- ---- the six tests
 
-pub record Passed (F : ℕ) (p : Path) : Type 0 where
+pub record Passed (p : Path) : Type 0 where
   pub size : isSize (p .segments) (length (p .points)) ≡ true
+  pub finest : isFinest (p .finest) ≡ true
   pub points : arePoints (p .points) ≡ true
-  pub chained : areChained reach (p .points) ≡ true
-  pub level : isLevel F (p .level) ≡ true
+  pub chained : areChained (reach (p .finest)) (p .points) ≡ true
+  pub level : isLevel (p .finest) (p .level) ≡ true
   pub limits : areLimits (p .upper) (p .lower) ≡ true
 
-pub passed : (F : ℕ) (p : Path) → pathRefusal F p ≡ 0 → Passed F p
+pub passed : (p : Path) → pathRefusal p ≡ 0 → Passed p
 unfolding pathRefusal pointsRefusal
-passed F p e =
-    let a = rule-kept (isSize (p .segments) (length (p .points))) 13 _ e in
-    let points = first-kept (pointsRefusal reach (p .points)) _ (a .1) in
-    let b = rule-kept (arePoints (p .points)) 0 _ (points .0) in
-    let c = rule-kept (areChained reach (p .points)) 1 0 (b .1) in
-    let d = rule-kept (isLevel F (p .level)) 2 _ (points .1) in
-    record { size = a .0; points = b .0; chained = c .0; level = d .0; limits = rule-kept (areLimits (p .upper) (p .lower)) 3 0 (d .1) .0 }
+passed p e =
+    let size = rule-kept (isSize (p .segments) (length (p .points))) 13 _ e in
+    let finest = rule-kept (isFinest (p .finest)) 23 _ (size .1) in
+    let both = first-kept (pointsRefusal (reach (p .finest)) (p .points)) _ (finest .1) in
+    let points = rule-kept (arePoints (p .points)) 0 _ (both .0) in
+    let chained = rule-kept (areChained (reach (p .finest)) (p .points)) 1 0 (points .1) in
+    let level = rule-kept (isLevel (p .finest) (p .level)) 2 _ (both .1) in
+    record {
+      size = size .0;
+      finest = finest .0;
+      points = points .0;
+      chained = chained .0;
+      level = level .0;
+      limits = rule-kept (areLimits (p .upper) (p .lower)) 3 0 (level .1) .0;
+    }
 
-pub all-passed : (F : ℕ) (p : Path) → Passed F p → pathRefusal F p ≡ 0
+pub all-passed : (p : Path) → Passed p → pathRefusal p ≡ 0
 unfolding pathRefusal pointsRefusal
-all-passed F p t = rw (t .size, t .points, t .chained, t .level, t .limits)
+all-passed p t = rw (t .size, t .finest, t .points, t .chained, t .level, t .limits)
 
 -- ---- each number of an accepted path
 
-module _ (F : ℕ) (p : Path) (t : Passed F p) where
+module _ (p : Path) (t : Passed p) where
   pub sized : Sized (p .segments) (length (p .points))
   sized = size-holds (p .segments) (length (p .points)) (t .size)
 
@@ -50,24 +59,28 @@ module _ (F : ℕ) (p : Path) (t : Passed F p) where
   unfolding pointAt
   point-kept c i h k = points-hold (p .points) (t .points) (coordinates * i + c) (omega (arith, sized .size))
 
-  next-kept : (c i j : ℕ) → c < 3 → j ≡ i + 1 → j ≤ 3 * p .segments → areNeighbours reach (pointAt (p .points) c i) (pointAt (p .points) c j) ≡ true
+  next-kept : (c i j : ℕ) → c < 3 → j ≡ i + 1 → j ≤ 3 * p .segments
+      → areNeighbours (reach (p .finest)) (pointAt (p .points) c i) (pointAt (p .points) c j) ≡ true
   unfolding pointAt
   next-kept c i j h e k =
       let f : coordinates * j + c ≡ coordinates + (coordinates * i + c) = omega arith in
-      rw f (chained-hold reach (p .points) (t .chained) (coordinates * i + c) (omega (arith, sized .size)))
+      rw f (chained-hold (reach (p .finest)) (p .points) (t .chained) (coordinates * i + c) (omega (arith, sized .size)))
 
-  kept-lawful : Lawful F p
-  unfolding isLevel
+  kept-lawful : Lawful p
+  unfolding isLevel reach
   kept-lawful =
       let l = limits-hold (p .upper) (p .lower) (t .limits) in
+      let f = finest-holds (p .finest) (t .finest) in
       record {
         some = sized .some;
         most = sized .most;
         size = sized .size;
+        finest-least = f .least;
+        finest-most = f .most;
         low = λ c i h k. coordinate-range (pointAt (p .points) c i) (point-kept c i h k) .0;
         high = λ c i h k. coordinate-range (pointAt (p .points) c i) (point-kept c i h k) .1;
-        near = λ c i h k. neighbours-size reach (pointAt (p .points) c i) (pointAt (p .points) c (i + 1)) (next-kept c i (i + 1) h refl (omega arith)) .le;
-        level = leb-true (p .level) F (t .level);
+        near = λ c i h k. neighbours-size (reach (p .finest)) (pointAt (p .points) c i) (pointAt (p .points) c (i + 1)) (next-kept c i (i + 1) h refl (omega arith)) .le;
+        level = leb-true (p .level) (p .finest) (t .level);
         least = l .least;
         unit = l .most;
         order = l .order;
@@ -85,7 +98,7 @@ module _ (F : ℕ) (p : Path) (t : Passed F p) where
           point-kept c (degree * k + 3) h (omega arith),
         )
 
-    segment-near : areNear reach (control (p .points) c k) ≡ true
+    segment-near : areNear (reach (p .finest)) (control (p .points) c k) ≡ true
     unfolding areNear control
     segment-near =
         rw (
@@ -96,18 +109,19 @@ module _ (F : ℕ) (p : Path) (t : Passed F p) where
 
 -- ---- the laws
 
-pub accepted-lawful : (F : ℕ) (p : Path) → pathRefusal F p ≡ 0 → Lawful F p
-accepted-lawful F p e = kept-lawful F p (passed F p e)
+pub accepted-lawful : (p : Path) → pathRefusal p ≡ 0 → Lawful p
+accepted-lawful p e = kept-lawful p (passed p e)
 
 -- number i of the list is coordinate i % 3 of point i / 3
-pub lawful-accepted : (F : ℕ) (p : Path) → Lawful F p → pathRefusal F p ≡ 0
-unfolding isLevel areNeighbours pointAt
-lawful-accepted F p l =
-    all-passed F p (record {
+pub lawful-accepted : (p : Path) → Lawful p → pathRefusal p ≡ 0
+unfolding isLevel reach areNeighbours pointAt
+lawful-accepted p l =
+    all-passed p (record {
       size = holds-size (record { some = l .some; most = l .most; size = l .size });
+      finest = holds-finest (record { least = l .finest-least; most = l .finest-most });
       points = hold-points (p .points) point;
-      chained = hold-chained reach (p .points) pair;
-      level = le-leb (p .level) F (l .level);
+      chained = hold-chained (reach (p .finest)) (p .points) pair;
+      level = le-leb (p .level) (p .finest) (l .level);
       limits = hold-limits (record { least = l .least; most = l .unit; order = l .order });
     })
   where
@@ -118,13 +132,13 @@ lawful-accepted F p l =
         rw e at (range-coordinate (l .low (i % 3) (i / 3) (omega arith) k) (l .high (i % 3) (i / 3) (omega arith) k))
 
     pair : (i : ℕ) → coordinates + i < length (p .points)
-        → areNeighbours reach (getD (p .points) i (pos 0)) (getD (p .points) (coordinates + i) (pos 0)) ≡ true
+        → areNeighbours (reach (p .finest)) (getD (p .points) i (pos 0)) (getD (p .points) (coordinates + i) (pos 0)) ≡ true
     pair i h =
         let e : coordinates * (i / 3) + i % 3 ≡ i = omega arith in
         let f : coordinates * (i / 3 + 1) + i % 3 ≡ coordinates + i = omega arith in
-        le-leb _ reach (rw (e, f) at (l .near (i % 3) (i / 3) (omega arith) (omega arith)))
+        le-leb _ (reach (p .finest)) (rw (e, f) at (l .near (i % 3) (i / 3) (omega arith) (omega arith)))
 
-pub point-inside : {F : ℕ} {p : Path} → Lawful F p → (c i : ℕ) → c < 3 → i ≤ 3 * p .segments → coordinates * i + c < length (p .points)
+pub point-inside : {p : Path} → Lawful p → (c i : ℕ) → c < 3 → i ≤ 3 * p .segments → coordinates * i + c < length (p .points)
 point-inside l c i h k = omega arith
 
 place-inside : (c : Coordinate) → place c < coordinates
@@ -132,12 +146,13 @@ place-inside in-x = omega arith
 place-inside in-y = omega arith
 place-inside in-width = omega arith
 
-pub segment-accepted : (F : ℕ) (p : Path) → pathRefusal F p ≡ 0 → (k : ℕ) → k < p .segments → startRefusal F (controls (p .points) k) (p .level) ≡ 0
+pub segment-accepted : (p : Path) → pathRefusal p ≡ 0 → (k : ℕ) → k < p .segments → startRefusal (p .finest) (controls (p .points) k) (p .level) ≡ 0
 unfolding startRefusal
-segment-accepted F p e k h =
-    let t = passed F p e in
+segment-accepted p e k h =
+    let t = passed p e in
     rw (
-      true-every (λ c. areCoordinates (controls (p .points) k c)) (λ c. segment-points F p t (place c) k (place-inside c) h),
-      true-every (λ c. areNear reach (controls (p .points) k c)) (λ c. segment-near F p t (place c) k (place-inside c) h),
+      t .finest,
+      true-every (λ c. areCoordinates (controls (p .points) k c)) (λ c. segment-points p t (place c) k (place-inside c) h),
+      true-every (λ c. areNear (reach (p .finest)) (controls (p .points) k c)) (λ c. segment-near p t (place c) k (place-inside c) h),
       t .level,
     )

@@ -32,21 +32,21 @@ says-one op op' e = sym (meant-says op) ∙ ap (λ (s : Said). meant (s .operati
     meant-says step = refl
 
 -- at the end choosing names none
-ended : (F upper lower : ℕ) (d : Drawing) (op : Operation) → d .q ≡ 2 ^ F → choice F upper lower d ≡ says op → ⊥
+ended : (upper lower : ℕ) (d : Drawing) (op : Operation) → d .q ≡ 2 ^ d .finest → choice upper lower d ≡ says op → ⊥
 unfolding choice choiceRefusal gate
-ended F upper lower d op end named =
-    let refusal = number-answered refusedBy (says (chosen F upper lower d)) (λ (s : Said). s .refusal) (λ k. refl) refl _ in
+ended upper lower d op end named =
+    let refusal = number-answered refusedBy (says (chosen upper lower d)) (λ (s : Said). s .refusal) (λ k. refl) refl _ in
     let none = sym refusal ∙ ap (λ (s : Said). s .refusal) named in
     let limits = rule-kept (areLimits upper lower) 3 _ none in
-    let drawing = rule-kept (isDrawing F (d .level) (d .q)) 9 _ (limits .1) in
-    let before = ltb-true (d .q) (2 ^ F) (rule-kept (ltb (d .q) (2 ^ F)) 4 0 (drawing .1) .0) in
+    let drawing = rule-kept (isDrawing (d .finest) (d .level) (d .q)) 9 _ (limits .1) in
+    let before = ltb-true (d .q) (2 ^ d .finest) (rule-kept (ltb (d .q) (2 ^ d .finest)) 4 0 (drawing .1) .0) in
     omega arith
 
-pub goes-only : (F upper lower : ℕ) (d : Drawing) (ops ops' : List Operation) → Goes F upper lower d ops → Goes F upper lower d ops' → ops ≡ ops'
-goes-only F upper lower d [] [] g g' = refl
-goes-only F upper lower d [] (op ∷ ops') g g' = absurd (ended F upper lower d op g (g' .0))
-goes-only F upper lower d (op ∷ ops) [] g g' = absurd (ended F upper lower d op g' (g .0))
-goes-only F upper lower d (op ∷ ops) (op' ∷ ops') g g' =
+pub goes-only : (upper lower : ℕ) (d : Drawing) (ops ops' : List Operation) → Goes upper lower d ops → Goes upper lower d ops' → ops ≡ ops'
+goes-only upper lower d [] [] g g' = refl
+goes-only upper lower d [] (op ∷ ops') g g' = absurd (ended upper lower d op g (g' .0))
+goes-only upper lower d (op ∷ ops) [] g g' = absurd (ended upper lower d op g' (g .0))
+goes-only upper lower d (op ∷ ops) (op' ∷ ops') g g' =
     let same : op' ≡ op = says-one op' op (sym (g' .0) ∙ g .0) in
-    let rest = subst (λ (o : Operation). Goes F upper lower (called F o d .drawing) ops') same (g' .2) in
-    ap₂ _∷_ (sym same) (goes-only F upper lower (called F op d .drawing) ops ops' (g .2) rest)
+    let rest = subst (λ (o : Operation). Goes upper lower (called o d .drawing) ops') same (g' .2) in
+    ap₂ _∷_ (sym same) (goes-only upper lower (called op d .drawing) ops ops' (g .2) rest)

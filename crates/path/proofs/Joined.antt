@@ -56,31 +56,31 @@ shown-shifted F k (t ∷ ts) = by-operation (t .operation) (shown-shifted F k ts
     by-operation double e = e
     by-operation step e = ap₂ _∷_ (entry-shifted F k _) e
 
-pub rest-shifted : (F : ℕ) (p : Path) (k : ℕ) (d : Drawing) → rest F p k d ≡ map (shifted (2 ^ F * k)) (rest F p 0 d)
+pub rest-shifted : (p : Path) (k : ℕ) (d : Drawing) → rest p k d ≡ map (shifted (2 ^ p .finest * k)) (rest p 0 d)
 unfolding rest
-rest-shifted F p k d = shown-shifted F k (turns F (p .upper) (p .lower) d)
+rest-shifted p k d = shown-shifted (p .finest) k (turns (p .upper) (p .lower) d)
 
-first-alone : (p : Path) (k : ℕ) → first (alone p k .points) (p .level) 0 ≡ first (p .points) (p .level) k
+first-alone : (p : Path) (k : ℕ) → first (p .finest) (alone p k .points) (p .level) 0 ≡ first (p .finest) (p .points) (p .level) k
 unfolding first
 first-alone p k = rw (control-alone p k 0 (omega arith), control-alone p k 1 (omega arith), control-alone p k 2 (omega arith))
 
 -- at its place, a segment's list is its start and what is left from there on
-placed-whole : (F : ℕ) (p : Path) (k : ℕ)
-    → placed F p k ≡ entry F k (first (p .points) (p .level) k) ∷ rest F p k (first (p .points) (p .level) k)
+placed-whole : (p : Path) (k : ℕ)
+    → placed p k ≡ entry (p .finest) k (first (p .finest) (p .points) (p .level) k) ∷ rest p k (first (p .finest) (p .points) (p .level) k)
 unfolding alone placed entries following rest
-placed-whole F p k =
-    let d = first (p .points) (p .level) k in
-    ap (map (shifted (2 ^ F * k))) (ap₂ _∷_ (ap (entry F 0) (first-alone p k)) (append-nil _ ∙ ap (rest F p 0) (first-alone p k)))
-    ∙ sym (ap₂ _∷_ (entry-shifted F k d) (rest-shifted F p k d))
+placed-whole p k =
+    let d = first (p .finest) (p .points) (p .level) k in
+    ap (map (shifted (2 ^ p .finest * k))) (ap₂ _∷_ (ap (entry (p .finest) 0) (first-alone p k)) (append-nil _ ∙ ap (rest p 0) (first-alone p k)))
+    ∙ sym (ap₂ _∷_ (entry-shifted (p .finest) k d) (rest-shifted p k d))
 
-joins-following : (F : ℕ) (p : Path) (k m : ℕ) → joins F p k m ≡ following F p k m
+joins-following : (p : Path) (k m : ℕ) → joins p k m ≡ following p k m
 unfolding joins following
-joins-following F p k zero = refl
-joins-following F p k (suc m) = ap₂ _++_ (ap tail (placed-whole F p k)) (joins-following F p (k + 1) m)
+joins-following p k zero = refl
+joins-following p k (suc m) = ap₂ _++_ (ap tail (placed-whole p k)) (joins-following p (k + 1) m)
 
-pub joined : (F : ℕ) (p : Path) (m : ℕ) → p .segments ≡ suc m → entries F p ≡ placed F p 0 ++ joins F p 1 m
+pub joined : (p : Path) (m : ℕ) → p .segments ≡ suc m → entries p ≡ placed p 0 ++ joins p 1 m
 unfolding entries following
-joined F p m e = rw (placed-whole F p 0, joins-following F p 1 m, e)
+joined p m e = rw (placed-whole p 0, joins-following p 1 m, e)
 
 -- ---- a segment of an accepted path
 
@@ -98,26 +98,27 @@ module _ (p : Path) (k : ℕ) (l : coordinates * (degree * k) + coordinates * (d
           let short : i < coordinates * (degree + 1) = rw length-alone at h in
           rw (number-alone p k i short) (points-hold (p .points) e _ (omega arith))
 
-  chained-alone : areChained reach (p .points) ≡ true → areChained reach (alone p k .points) ≡ true
-  chained-alone e = hold-chained reach (alone p k .points) each
+  chained-alone : (W : ℕ) → areChained W (p .points) ≡ true → areChained W (alone p k .points) ≡ true
+  chained-alone W e = hold-chained W (alone p k .points) each
     where
       each : (i : ℕ) → coordinates + i < length (alone p k .points)
-          → areNeighbours reach (getD (alone p k .points) i (pos 0)) (getD (alone p k .points) (coordinates + i) (pos 0)) ≡ true
+          → areNeighbours W (getD (alone p k .points) i (pos 0)) (getD (alone p k .points) (coordinates + i) (pos 0)) ≡ true
       each i h =
           let n : ℕ = coordinates * (degree * k) in
           let short : coordinates + i < coordinates * (degree + 1) = rw length-alone at h in
           let further : n + (coordinates + i) ≡ coordinates + (n + i) = omega arith in
-          rw (number-alone p k i (omega arith), number-alone p k (coordinates + i) short, further) (chained-hold reach (p .points) e (n + i) (omega arith))
+          rw (number-alone p k i (omega arith), number-alone p k (coordinates + i) short, further) (chained-hold W (p .points) e (n + i) (omega arith))
 
-pub alone-accepted : (F : ℕ) (p : Path) (k : ℕ) → pathRefusal F p ≡ 0 → k < p .segments → pathRefusal F (alone p k) ≡ 0
+pub alone-accepted : (p : Path) (k : ℕ) → pathRefusal p ≡ 0 → k < p .segments → pathRefusal (alone p k) ≡ 0
 unfolding alone isSize isSegments
-alone-accepted F p k e h =
-    let t = passed F p e in
-    let l : coordinates * (degree * k) + coordinates * (degree + 1) ≤ length (p .points) = omega (arith, sized F p t .size) in
-    all-passed F (alone p k) (record {
+alone-accepted p k e h =
+    let t = passed p e in
+    let l : coordinates * (degree * k) + coordinates * (degree + 1) ≤ length (p .points) = omega (arith, sized p t .size) in
+    all-passed (alone p k) (record {
       size = rw (length-alone p k l);
+      finest = t .finest;
       points = points-alone p k l (t .points);
-      chained = chained-alone p k l (t .chained);
+      chained = chained-alone p k l (reach (p .finest)) (t .chained);
       level = t .level;
       limits = t .limits;
     })

@@ -8,8 +8,6 @@ use lib.ListN.{length, length-append}
 use Rattle.numbers.specs.Tables.{All}
 use Rattle.numbers.proofs.Tables.{all-append, all-weaker}
 use Rattle.engine.specs.declared.Drawing.{Drawing}
-use Rattle.distance.specs.Demand3.{Fine}
-use Rattle.distance.proofs.Demand3.{fine}
 use Rattle.entries.specs.declared.Entry.{Entry}
 use Rattle.entries.specs.Entries.{Among, Linked, lastOf}
 use Rattle.entries.specs.Length.{lengthOf}
@@ -26,103 +24,108 @@ use Rattle.path.proofs.Near.{placed-near, near-in-numbers}
 
 -- ---- the segments from the k-th on
 
-module _ (F : ℕ) (p : Path) (good : (k : ℕ) → k < p .segments → Sound F p k) where
+module _ (p : Path) (good : (k : ℕ) → k < p .segments → Sound p k) where
   abbrev start : ℕ → Drawing
-  start k = first (p .points) (p .level) k
+  start k = first (p .finest) (p .points) (p .level) k
 
   abbrev at : ℕ → Entry
-  at k = corner F (p .points) k
+  at k = corner (p .finest) (p .points) k
 
-  start-shown : (k : ℕ) → k < p .segments → entry F k (start k) ≡ at k
+  start-shown : (k : ℕ) → k < p .segments → entry (p .finest) k (start k) ≡ at k
   unfolding first
-  start-shown k l = entry-first F p k (good k l) (start k) (good k l .first) refl
+  start-shown k l = entry-first p k (good k l) (start k) (good k l .first) refl
 
   -- segment k goes from control point 3k to control point 3k + 3
-  segment-last : (k : ℕ) → k < p .segments → lastOf (at k) (rest F p k (start k)) ≡ at (k + 1)
+  segment-last : (k : ℕ) → k < p .segments → lastOf (at k) (rest p k (start k)) ≡ at (k + 1)
   segment-last k l =
-      ap (λ (e : Entry). lastOf e (rest F p k (start k))) (sym (start-shown k l))
-      ∙ span-last F p k (good k l) (start k) (held-first F p k (good k l))
+      ap (λ (e : Entry). lastOf e (rest p k (start k))) (sym (start-shown k l))
+      ∙ span-last p k (good k l) (start k) (held-first p k (good k l))
 
-  following-last : (m k : ℕ) → k + m ≤ p .segments → lastOf (at k) (following F p k m) ≡ at (k + m)
+  following-last : (m k : ℕ) → k + m ≤ p .segments → lastOf (at k) (following p k m) ≡ at (k + m)
   unfolding following
   following-last zero k l = ap at (sym (add-zero k))
   following-last (suc m) k l =
       let n : k + 1 + m ≡ k + suc m = omega arith in
-      last-append (at k) (rest F p k (start k)) (following F p (k + 1) m)
-      ∙ ap (λ (e : Entry). lastOf e (following F p (k + 1) m)) (segment-last k (omega arith))
+      last-append (at k) (rest p k (start k)) (following p (k + 1) m)
+      ∙ ap (λ (e : Entry). lastOf e (following p (k + 1) m)) (segment-last k (omega arith))
       ∙ following-last m (k + 1) (omega arith)
       ∙ ap at n
 
-  following-linked : (m k : ℕ) → k + m ≤ p .segments → Linked Follows (at k) (following F p k m)
+  following-linked : (m k : ℕ) → k + m ≤ p .segments → Linked Follows (at k) (following p k m)
   unfolding following
   following-linked zero k l = tt
   following-linked (suc m) k l =
       let s = good k (omega arith) in
-      linked-append Follows (at k) (rest F p k (start k)) (following F p (k + 1) m)
-      (subst (λ (e : Entry). Linked Follows e (rest F p k (start k))) (start-shown k (omega arith)) (span-linked F p k s (start k) (held-first F p k s)))
-      (subst (λ (e : Entry). Linked Follows e (following F p (k + 1) m)) (sym (segment-last k (omega arith))) (following-linked m (k + 1) (omega arith)))
+      linked-append Follows (at k) (rest p k (start k)) (following p (k + 1) m)
+      (subst (λ (e : Entry). Linked Follows e (rest p k (start k))) (start-shown k (omega arith)) (span-linked p k s (start k) (held-first p k s)))
+      (subst (λ (e : Entry). Linked Follows e (following p (k + 1) m)) (sym (segment-last k (omega arith))) (following-linked m (k + 1) (omega arith)))
 
-  following-corners : (m k i : ℕ) → k + m ≤ p .segments → i ≤ m → Among (at (k + i)) (at k ∷ following F p k m)
+  following-corners : (m k i : ℕ) → k + m ≤ p .segments → i ≤ m → Among (at (k + i)) (at k ∷ following p k m)
   unfolding following
-  following-corners m k zero l a = subst (λ (n : ℕ). Among (at n) (at k ∷ following F p k m)) (sym (add-zero k)) (among-head (at k) (following F p k m))
+  following-corners m k zero l a = subst (λ (n : ℕ). Among (at n) (at k ∷ following p k m)) (sym (add-zero k)) (among-head (at k) (following p k m))
   following-corners zero k (suc i) l a = absurd (not-suc-le-zero a)
   following-corners (suc m) k (suc i) l a =
       let n : k + 1 + i ≡ k + suc i = omega arith in
-      let es = following F p (k + 1) m in
+      let es = following p (k + 1) m in
       let further = following-corners m (k + 1) i (omega arith) (le-of-suc-le-suc a) in
-      among-joined (at k) (at (k + suc i)) (rest F p k (start k)) es
+      among-joined (at k) (at (k + suc i)) (rest p k (start k)) es
       (rw (segment-last k (omega arith)) (subst (λ (j : ℕ). Among (at j) (at (k + 1) ∷ es)) n further))
 
-  following-count : (m k : ℕ) → k + m ≤ p .segments → length (following F p k m) ≤ 2 ^ F * m
+  following-count : (m k : ℕ) → k + m ≤ p .segments → length (following p k m) ≤ 2 ^ p .finest * m
   unfolding following
   following-count zero k l = omega arith
   following-count (suc m) k l =
       let d = start k in
       let s = good k (omega arith) in
-      omega (arith, length-append (rest F p k d) (following F p (k + 1) m), span-count F p k s d (held-first F p k s), following-count m (k + 1) (omega arith))
+      omega (arith, length-append (rest p k d) (following p (k + 1) m), span-count p k s d (held-first p k s), following-count m (k + 1) (omega arith))
 
-  following-placed : pathRefusal F p ≡ 0 → (m k : ℕ) → k + m ≤ p .segments → All (Placed F p) (following F p k m)
+  following-placed : pathRefusal p ≡ 0 → (m k : ℕ) → k + m ≤ p .segments → All (Placed p) (following p k m)
   unfolding following
   following-placed e zero k l = tt
   following-placed e (suc m) k l =
       let s = good k (omega arith) in
-      all-append (Placed F p) (rest F p k (start k)) (following F p (k + 1) m)
-      (span-placed F p k s e (omega arith) (start k) (held-first F p k s))
+      all-append (Placed p) (rest p k (start k)) (following p (k + 1) m)
+      (span-placed p k s e (omega arith) (start k) (held-first p k s))
       (following-placed e m (k + 1) (omega arith))
 
-  entries-placed : pathRefusal F p ≡ 0 → 0 < p .segments → All (Placed F p) (entries F p)
+  entries-placed : pathRefusal p ≡ 0 → 0 < p .segments → All (Placed p) (entries p)
   unfolding entries
   entries-placed e l =
       let s = good 0 l in
-      (placed-at F p 0 s e l (start 0) (held-first F p 0 s), following-placed e (p .segments) 0 (omega arith))
+      (placed-at p 0 s e l (start 0) (held-first p 0 s), following-placed e (p .segments) 0 (omega arith))
 
-pub listed : (F : ℕ) (p : Path) → Fine F → pathRefusal F p ≡ 0 → Listed F p
+pub listed : (p : Path) → pathRefusal p ≡ 0 → Listed p
 unfolding entries lengthOf
-listed F p f e =
+listed p e =
     let S = p .segments in
-    let some = accepted-lawful F p e .some in
-    let good = sound F p f e in
-    let es = following F p 0 S in
-    let whole : entries F p ≡ corner F (p .points) 0 ∷ es = ap (λ (f : Entry). f ∷ es) (start-shown F p good 0 some) in
-    let count = following-count F p good S 0 (omega arith) in
-    let placed = entries-placed F p good e some in
+    let some = accepted-lawful p e .some in
+    let good = sound p e in
+    let es = following p 0 S in
+    let whole : entries p ≡ corner (p .finest) (p .points) 0 ∷ es = ap (λ (f : Entry). f ∷ es) (start-shown p good 0 some) in
+    let count = following-count p good S 0 (omega arith) in
+    let placed = entries-placed p good e some in
     record {
       after = es;
       starts = whole;
-      ends = following-last F p good S 0 (omega arith) ∙ ap (corner F (p .points)) (zero-add S);
-      corners = λ k l. rw whole (rw (zero-add k) at (following-corners F p good S 0 k (omega arith) l));
-      linked = following-linked F p good S 0 (omega arith);
+      ends = following-last p good S 0 (omega arith) ∙ ap (corner (p .finest) (p .points)) (zero-add S);
+      corners = λ k l. rw whole (rw (zero-add k) at (following-corners p good S 0 k (omega arith) l));
+      linked = following-linked p good S 0 (omega arith);
       placed = placed;
-      near = all-weaker (placed-near F p) (entries F p) placed;
-      calls = calls F p;
-      goes = calls-go F p good e;
-      steps = following-steps F p good e;
+      near = all-weaker (placed-near p) (entries p) placed;
+      calls = calls p;
+      goes = calls-go p good e;
+      steps = following-steps p good e;
       count = omega arith;
       total = le-trans (length-most _ es) (mul-le-mul-left 1414 count);
     }
 
-pub in-numbers : (p : Path) → pathRefusal 11 p ≡ 0 → InNumbers p
+pub in-numbers : (p : Path) → p .finest ≡ 11 → pathRefusal p ≡ 0 → InNumbers p
 unfolding corner
-in-numbers p e =
-    let l = listed 11 p fine e in
-    record { corners = l .corners; near = all-weaker (near-in-numbers p) (entries 11 p) (l .near); count = l .count; total = l .total }
+in-numbers p f e =
+    let l = listed p e in
+    record {
+      corners = λ k h. subst (λ (F : ℕ). Among (corner F (p .points) k) (entries p)) f (l .corners k h);
+      near = all-weaker (λ e. near-in-numbers p e f) (entries p) (l .near);
+      count = subst (λ (F : ℕ). length (entries p) ≤ 2 ^ F * p .segments + 1) f (l .count);
+      total = subst (λ (F : ℕ). lengthOf (entries p) ≤ 1414 * (2 ^ F * p .segments)) f (l .total);
+    }

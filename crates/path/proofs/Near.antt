@@ -68,10 +68,11 @@ module _ (F : ℕ) (points : List ℤ) (c : Coordinate) where
 further : (G k q S : ℕ) → q ≤ G → k < S → G * k + q ≤ G * S
 further G k q S h l = omega (arith, mul-le-mul-left G l)
 
-pub placed-near : (F : ℕ) (p : Path) (e : Entry) → Placed F p e → Near F p e
+pub placed-near : (p : Path) (e : Entry) → Placed p e → Near p e
 unfolding entry
-placed-near F p e l =
-    let d = after F (l .calls) (begins F p (l .k)) in
+placed-near p e l =
+    let F = p .finest in
+    let d = after (l .calls) (begins p (l .k)) in
     let within = inside F (d .level) (d .q) (l .demand .inside) .position in
     record {
       at = 2 ^ F * l .k + d .q;
@@ -82,17 +83,21 @@ placed-near F p e l =
           (rw (number c) (shown-near F (courses (p .points) (l .k) c) (d .q) (of c d) (l .demand .stands c)));
     }
   where
-    number : (c : Coordinate) → pick (e .x) (e .y) (e .width) c ≡ pixel (of c (after F (l .calls) (begins F p (l .k))))
+    number : (c : Coordinate) → pick (e .x) (e .y) (e .width) c ≡ pixel (of c (after (l .calls) (begins p (l .k))))
     number in-x = ap (λ (f : Entry). f .x) (l .shown)
     number in-y = ap (λ (f : Entry). f .y) (l .shown)
     number in-width = ap (λ (f : Entry). f .width) (l .shown)
 
-pub near-in-numbers : (p : Path) (e : Entry) → Near 11 p e → NearInNumbers p e
-near-in-numbers p e n =
+pub near-in-numbers : (p : Path) (e : Entry) → p .finest ≡ 11 → Near p e → NearInNumbers p e
+near-in-numbers p e f n =
     record {
       at = n .at;
       position = n .position;
-      inside = n .inside;
+      inside = subst (λ (F : ℕ). n .at ≤ 2 ^ F * p .segments) f (n .inside);
       near = λ k q s h l c.
-          subst (λ (g : Control). Within 11 38912 (exact 11 (curve g) q) (pick (e .x) (e .y) (e .width) c)) (segment-uses (p .points) k c) (n .near k q s h l c);
+          subst (λ (g : Control). Within 11 38912 (exact 11 (curve g) q) (pick (e .x) (e .y) (e .width) c)) (segment-uses (p .points) k c)
+          (subst
+          (λ (F : ℕ). q ≤ 2 ^ F → n .at ≡ 2 ^ F * k + q
+          → Within F (32768 + 3 * 2 ^ F) (exact F (courses (p .points) k c .curve) q) (pick (e .x) (e .y) (e .width) c))
+          f (λ h l. n .near k q s h l c) h l);
     }

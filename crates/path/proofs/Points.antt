@@ -1,4 +1,4 @@
--- A path's five arguments, and its points as numbers: x0, y0, width0, x1, y1, width1, .., of which segment k uses points 3k to 3k + 3.
+-- A path's arguments, and its points as numbers: x0, y0, width0, x1, y1, width1, .., of which segment k uses points 3k to 3k + 3.
 use mathlib.Core.Path.{_≡_, refl, ap}
 use mathlib.Core.List.{List, _∷_}
 use Prim.Native.Nat.{ℕ, suc, _+_, _*_}
@@ -10,10 +10,10 @@ use Rattle.operations.specs.Coordinates.{Coordinate, in-x, in-y, in-width, pick
 use Rattle.path.specs.Path.{path, pointAt, control, controls}
 use Rattle.path.specs.Listed.{segmentPoints}
 
-pub arguments-in-order : (points : List ℤ) (segments level upper lower : ℕ)
-    → path points segments level upper lower
-    ≡ record { points = points; segments = segments; level = level; upper = upper; lower = lower }
-arguments-in-order points segments level upper lower = refl
+pub arguments-in-order : (points : List ℤ) (segments finest level upper lower : ℕ)
+    → path points (record { segments = segments; finest = finest; level = level }) (record { upper = upper; lower = lower })
+    ≡ record { points = points; segments = segments; finest = finest; level = level; upper = upper; lower = lower }
+arguments-in-order points segments finest level upper lower = refl
 
 pub x-y-width : (x y width : ℤ) (points : List ℤ)
     → let l = x ∷ y ∷ width ∷ points in (pointAt l 0 0 ≡ x) × (pointAt l 1 0 ≡ y) × (pointAt l 2 0 ≡ width)

@@ -13,21 +13,21 @@ use Rattle.path.specs.Path.{Path, pathRefusal}
 use Rattle.path.specs.Entries.{entries}
 
 -- measuring is refused as the path is; drawing into a list of `room` numbers also by 9, where it is shorter than the whole answer
-unfoldable pub drawRefusal : ℕ → Path → ℕ → ℕ
-drawRefusal F p room = firstOf (pathRefusal F p) (unless (leb (entrySize * length (entries F p)) room) 9 0)
+unfoldable pub drawRefusal : Path → ℕ → ℕ
+drawRefusal p room = firstOf (pathRefusal p) (unless (leb (entrySize * length (entries p)) room) 9 0)
 
 -- the numbers by which a path may be refused, 0 for none; under the standard limits without 4
 abbrev pub measureTable : List ℕ
-measureTable = 0 ∷ 1 ∷ 2 ∷ 3 ∷ 4 ∷ 14 ∷ []
+measureTable = 0 ∷ 1 ∷ 2 ∷ 3 ∷ 4 ∷ 14 ∷ 24 ∷ []
 
 abbrev pub drawTable : List ℕ
-drawTable = 0 ∷ 1 ∷ 2 ∷ 3 ∷ 4 ∷ 9 ∷ 14 ∷ []
+drawTable = 0 ∷ 1 ∷ 2 ∷ 3 ∷ 4 ∷ 9 ∷ 14 ∷ 24 ∷ []
 
 abbrev pub standardMeasureTable : List ℕ
-standardMeasureTable = 0 ∷ 1 ∷ 2 ∷ 3 ∷ 14 ∷ []
+standardMeasureTable = 0 ∷ 1 ∷ 2 ∷ 3 ∷ 14 ∷ 24 ∷ []
 
 abbrev pub standardDrawTable : List ℕ
-standardDrawTable = 0 ∷ 1 ∷ 2 ∷ 3 ∷ 9 ∷ 14 ∷ []
+standardDrawTable = 0 ∷ 1 ∷ 2 ∷ 3 ∷ 9 ∷ 14 ∷ 24 ∷ []
 
 -- the number of points and the length; a refusal answers its number, with 0 for both
 abbrev pub refusedBy : ℕ → Drawn
@@ -36,12 +36,12 @@ refusedBy k = record { refusal = k; points = 0; length = 0 }
 abbrev pub answer : List Entry → Drawn
 answer es = record { refusal = 0; points = length es; length = lengthOf es }
 
-unfoldable pub measured : ℕ → Path → Drawn
-measured F p = refusalOr (pathRefusal F p) refusedBy (answer (entries F p))
+unfoldable pub measured : Path → Drawn
+measured p = refusalOr (pathRefusal p) refusedBy (answer (entries p))
 
-unfoldable pub drawn : ℕ → Path → ℕ → Drawn
-drawn F p room = refusalOr (drawRefusal F p room) refusedBy (answer (entries F p))
+unfoldable pub drawn : Path → ℕ → Drawn
+drawn p room = refusalOr (drawRefusal p room) refusedBy (answer (entries p))
 
 -- the list afterwards
-unfoldable pub written : ℕ → Path → List ℤ → List ℤ
-written F p list = filled (drawRefusal F p (length list)) (flat (entries F p)) list
+unfoldable pub written : Path → List ℤ → List ℤ
+written p list = filled (drawRefusal p (length list)) (flat (entries p)) list

@@ -18,20 +18,20 @@ entry F k d = record { position = pos (2 ^ F * k + d .q); x = pixel (d .x); y = 
 abbrev pub shown : ℕ → ℕ → Operation → Drawing → List Entry
 shown F k halve d = []
 shown F k double d = []
-shown F k step d = entry F k (turned F step d) ∷ []
+shown F k step d = entry F k (turned step d) ∷ []
 
 unfoldable pub shownBy : ℕ → ℕ → List Turn → List Entry
 shownBy F k [] = []
 shownBy F k (t ∷ ts) = shown F k (t .operation) (t .drawing) ++ shownBy F k ts
 
 -- what is left of segment k from d on
-unfoldable pub rest : ℕ → Path → ℕ → Drawing → List Entry
-rest F p k d = shownBy F k (turns F (p .upper) (p .lower) d)
+unfoldable pub rest : Path → ℕ → Drawing → List Entry
+rest p k d = shownBy (p .finest) k (turns (p .upper) (p .lower) d)
 
 -- m segments from the k-th on, without the point that the first of them starts from
-unfoldable pub following : ℕ → Path → ℕ → ℕ → List Entry
-following F p k zero = []
-following F p k (suc m) = rest F p k (first (p .points) (p .level) k) ++ following F p (k + 1) m
+unfoldable pub following : Path → ℕ → ℕ → List Entry
+following p k zero = []
+following p k (suc m) = rest p k (first (p .finest) (p .points) (p .level) k) ++ following p (k + 1) m
 
-unfoldable pub entries : ℕ → Path → List Entry
-entries F p = entry F 0 (first (p .points) (p .level) 0) ∷ following F p 0 (p .segments)
+unfoldable pub entries : Path → List Entry
+entries p = entry (p .finest) 0 (first (p .finest) (p .points) (p .level) 0) ∷ following p 0 (p .segments)

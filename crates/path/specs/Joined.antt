@@ -8,12 +8,13 @@ use Rattle.entries.specs.declared.Entry.{Entry}
 use Rattle.path.specs.Path.{Path}
 use Rattle.path.specs.Entries.{entries}
 
--- segment k as a path: points 3k to 3k + 3, the same level and limits
+-- segment k as a path: points 3k to 3k + 3, the same levels and limits
 unfoldable pub alone : Path → ℕ → Path
 alone p k =
     record {
       points = take (coordinates * (degree + 1)) (drop (coordinates * (degree * k)) (p .points));
       segments = 1;
+      finest = p .finest;
       level = p .level;
       upper = p .upper;
       lower = p .lower;
@@ -24,10 +25,10 @@ unfoldable pub shifted : ℕ → Entry → Entry
 shifted n e = record { position = e .position +ℤ pos n; x = e .x; y = e .y; width = e .width }
 
 -- the list of segment k by itself, at its place on the path
-unfoldable pub placed : ℕ → Path → ℕ → List Entry
-placed F p k = map (shifted (2 ^ F * k)) (entries F (alone p k))
+unfoldable pub placed : Path → ℕ → List Entry
+placed p k = map (shifted (2 ^ p .finest * k)) (entries (alone p k))
 
 -- m such lists from the k-th on, each without its first entry
-unfoldable pub joins : ℕ → Path → ℕ → ℕ → List Entry
-joins F p k zero = []
-joins F p k (suc m) = tail (placed F p k) ++ joins F p (k + 1) m
+unfoldable pub joins : Path → ℕ → ℕ → List Entry
+joins p k zero = []
+joins p k (suc m) = tail (placed p k) ++ joins p (k + 1) m

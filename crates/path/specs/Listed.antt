@@ -1,4 +1,4 @@
--- What document 01 says of the list of an accepted path, beside its numbers, at any finest level F.
+-- What document 01 says of the list of an accepted path, beside its numbers, at the path's finest level F.
 use mathlib.Core.Path.{_≡_}
 use mathlib.Core.List.{List, _∷_, map}
 use Prim.Native.Nat.{ℕ, _+_, _*_, _^_, _≤_, _<_}
@@ -23,8 +23,8 @@ use Rattle.path.specs.Entries.{entry, entries}
 use Rattle.path.specs.Steps.{Goes, afterSteps, shownAt, inOrder}
 
 -- where segment k starts: what the engine's start answers, at the path's start level
-abbrev pub begins : ℕ → Path → ℕ → Drawing
-begins F p k = started F (controls (p .points) k) (p .level) .drawing
+abbrev pub begins : Path → ℕ → Drawing
+begins p k = started (p .finest) (controls (p .points) k) (p .level) .drawing
 
 -- control point 3k with its width, at its position on the path
 unfoldable pub corner : ℕ → List ℤ → ℕ → Entry
@@ -44,12 +44,12 @@ pub record Follows (e f : Entry) : Type 0 where
 
 -- an entry stands at its parameter: it is the point shown of a drawing that calls lead to from the start of segment k, and of that drawing
 -- demand 3 holds
-pub record Placed (F : ℕ) (p : Path) (e : Entry) : Type 0 where
+pub record Placed (p : Path) (e : Entry) : Type 0 where
   pub k : ℕ
   pub segment : k < p .segments
   pub calls : List Operation
-  pub shown : e ≡ entry F k (after F calls (begins F p k))
-  pub demand : Demand3 F (courses (p .points) k) (after F calls (begins F p k)) (travelled F calls (begins F p k))
+  pub shown : e ≡ entry (p .finest) k (after calls (begins p k))
+  pub demand : Demand3 (p .finest) (courses (p .points) k) (after calls (begins p k)) (travelled calls (begins p k))
 
 -- z is less than m 65,536ths of a unit from y / 2^(3F)
 abbrev pub Within : ℕ → ℕ → ℤ → ℤ → Type 0
@@ -57,31 +57,31 @@ Within F m y z = natAbs (pos 65536 *ℤ z *ℤ pos (2 ^ (3 * F)) -ℤ pos 65536 
 
 -- An entry stands where its position says: wherever that is 2^F·k + q, at a join for both segments, x, y and the width are less than half a unit and
 -- 3·2^F 65,536ths from the exact curve of segment k at t = q / 2^F.
-pub record Near (F : ℕ) (p : Path) (e : Entry) : Type 0 where
+pub record Near (p : Path) (e : Entry) : Type 0 where
   pub at : ℕ
   pub position : e .position ≡ pos at
-  pub inside : at ≤ 2 ^ F * p .segments
-  pub near : (k q : ℕ) → k < p .segments → q ≤ 2 ^ F → at ≡ 2 ^ F * k + q → (c : Coordinate)
-      → Within F (32768 + 3 * 2 ^ F) (exact F (courses (p .points) k c .curve) q) (pick (e .x) (e .y) (e .width) c)
+  pub inside : at ≤ 2 ^ p .finest * p .segments
+  pub near : (k q : ℕ) → k < p .segments → q ≤ 2 ^ p .finest → at ≡ 2 ^ p .finest * k + q → (c : Coordinate)
+      → Within (p .finest) (32768 + 3 * 2 ^ p .finest) (exact (p .finest) (courses (p .points) k c .curve) q) (pick (e .x) (e .y) (e .width) c)
 
-pub record Listed (F : ℕ) (p : Path) : Type 0 where
+pub record Listed (p : Path) : Type 0 where
   -- the list starts at the path's first control point, ends at its last, and has control point 3k at each 2^F·k
   pub after : List Entry
-  pub starts : entries F p ≡ corner F (p .points) 0 ∷ after
-  pub ends : lastOf (corner F (p .points) 0) after ≡ corner F (p .points) (p .segments)
-  pub corners : (k : ℕ) → k ≤ p .segments → Among (corner F (p .points) k) (entries F p)
+  pub starts : entries p ≡ corner (p .finest) (p .points) 0 ∷ after
+  pub ends : lastOf (corner (p .finest) (p .points) 0) after ≡ corner (p .finest) (p .points) (p .segments)
+  pub corners : (k : ℕ) → k ≤ p .segments → Among (corner (p .finest) (p .points) k) (entries p)
   -- neighbours touch, over joins too, and positions rise strictly
-  pub linked : Linked Follows (corner F (p .points) 0) after
+  pub linked : Linked Follows (corner (p .finest) (p .points) 0) after
   -- each entry stands where the exact curve stands
-  pub placed : All (Placed F p) (entries F p)
-  pub near : All (Near F p) (entries F p)
+  pub placed : All (Placed p) (entries p)
+  pub near : All (Near p) (entries p)
   -- in each segment every chosen operation is accepted; after the start the list has the point shown after each step, in order, and nothing else
   pub calls : ℕ → List Operation
-  pub goes : (k : ℕ) → k < p .segments → Goes F (p .upper) (p .lower) (begins F p k) (calls k)
-  pub steps : after ≡ inOrder (p .segments) (λ k. map (shownAt F k) (afterSteps F (calls k) (begins F p k)))
+  pub goes : (k : ℕ) → k < p .segments → Goes (p .upper) (p .lower) (begins p k) (calls k)
+  pub steps : after ≡ inOrder (p .segments) (λ k. map (shownAt (p .finest) k) (afterSteps (calls k) (begins p k)))
   -- at most 2^F points a segment after the start, each at most 1,414 away
-  pub count : length (entries F p) ≤ 2 ^ F * p .segments + 1
-  pub total : lengthOf (entries F p) ≤ 1414 * (2 ^ F * p .segments)
+  pub count : length (entries p) ≤ 2 ^ p .finest * p .segments + 1
+  pub total : lengthOf (entries p) ≤ 1414 * (2 ^ p .finest * p .segments)
 
 -- ---- at F = 11, in the document's own numbers
 
@@ -109,7 +109,7 @@ pub record InNumbers (p : Path) : Type 0 where
         y = pointAt (p .points) 1 (3 * k);
         width = pointAt (p .points) 2 (3 * k);
       })
-      (entries 11 p)
-  pub near : All (NearInNumbers p) (entries 11 p)
-  pub count : length (entries 11 p) ≤ 2048 * p .segments + 1
-  pub total : lengthOf (entries 11 p) ≤ 1414 * (2048 * p .segments)
+      (entries p)
+  pub near : All (NearInNumbers p) (entries p)
+  pub count : length (entries p) ≤ 2048 * p .segments + 1
+  pub total : lengthOf (entries p) ≤ 1414 * (2048 * p .segments)

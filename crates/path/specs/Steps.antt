@@ -10,18 +10,18 @@ use Rattle.engine.specs.Choice.{says, choice}
 use Rattle.engine.specs.Shown.{point}
 use Rattle.entries.specs.declared.Entry.{Entry}
 
--- The operations from d on: choosing names each of them and its call is not refused, until drawing stops at q = 2^F.
-abbrev pub Goes : ℕ → ℕ → ℕ → Drawing → List Operation → Type 0
-Goes F upper lower d [] = d .q ≡ 2 ^ F
-Goes F upper lower d (op ∷ ops) =
-    (choice F upper lower d ≡ says op) × (called F op d .refusal ≡ 0) × Goes F upper lower (called F op d .drawing) ops
+-- The operations from d on: choosing names each of them and its call is not refused, until drawing stops at q = 2^F, F being d's finest level.
+abbrev pub Goes : ℕ → ℕ → Drawing → List Operation → Type 0
+Goes upper lower d [] = d .q ≡ 2 ^ d .finest
+Goes upper lower d (op ∷ ops) =
+    (choice upper lower d ≡ says op) × (called op d .refusal ≡ 0) × Goes upper lower (called op d .drawing) ops
 
 -- the drawing after each step among them, in order
-abbrev pub afterSteps : ℕ → List Operation → Drawing → List Drawing
-afterSteps F [] d = []
-afterSteps F (halve ∷ ops) d = afterSteps F ops (called F halve d .drawing)
-afterSteps F (double ∷ ops) d = afterSteps F ops (called F double d .drawing)
-afterSteps F (step ∷ ops) d = called F step d .drawing ∷ afterSteps F ops (called F step d .drawing)
+abbrev pub afterSteps : List Operation → Drawing → List Drawing
+afterSteps [] d = []
+afterSteps (halve ∷ ops) d = afterSteps ops (called halve d .drawing)
+afterSteps (double ∷ ops) d = afterSteps ops (called double d .drawing)
+afterSteps (step ∷ ops) d = called step d .drawing ∷ afterSteps ops (called step d .drawing)
 
 -- what is listed of a drawing of segment k: position 2^F·k + q, and the point that the engine shows with its width
 abbrev pub shownAt : ℕ → ℕ → Drawing → Entry
