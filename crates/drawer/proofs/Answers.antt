@@ -37,63 +37,63 @@ unfolding addedAll added lengthFrom
 added-length t [] = sym (add-zero (t .length))
 added-length t (e ∷ es) = omega (arith, added-length (added t e) es)
 
-tally-answers : (F : ℕ) (p : Path) → record { refusal = 0; points = tally F p .points; length = tally F p .length } ≡ answer (entries F p)
+tally-answers : (p : Path) → record { refusal = 0; points = tally p .points; length = tally p .length } ≡ answer (entries p)
 unfolding tally entries begun lengthOf
-tally-answers F p =
-    let e = entry F 0 (first (p .points) (p .level) 0) in
-    let es = following F p 0 (p .segments) in
-    let n : tally F p .points ≡ suc (length es) = added-points (begun e) es ∙ omega arith in
+tally-answers p =
+    let e = entry (p .finest) 0 (first (p .finest) (p .points) (p .level) 0) in
+    let es = following p 0 (p .segments) in
+    let n : tally p .points ≡ suc (length es) = added-points (begun e) es ∙ omega arith in
     λ i. record { refusal = 0; points = n i; length = (added-length (begun e) es ∙ zero-add (lengthFrom e es)) i }
 
 -- ---- measuring
 
-pub measured-tally : (F : ℕ) (p : Path) → pathRefusal F p ≡ 0
-    → record { refusal = 0; points = tally F p .points; length = tally F p .length } ≡ measured F p
+pub measured-tally : (p : Path) → pathRefusal p ≡ 0
+    → record { refusal = 0; points = tally p .points; length = tally p .length } ≡ measured p
 unfolding measured
-measured-tally F p e = tally-answers F p ∙ sym (answers refusedBy (answer (entries F p)) e)
+measured-tally p e = tally-answers p ∙ sym (answers refusedBy (answer (entries p)) e)
 
 -- ---- drawing, where measuring answered m
 
-module _ (F : ℕ) (p : Path) (list : List ℤ) (m : Drawn) (e : m ≡ measured F p) where
-  pub measure-refusal : m .refusal ≡ pathRefusal F p
-  measure-refusal = ap (λ (d : Drawn). d .refusal) e ∙ measured-refusal F p
+module _ (p : Path) (list : List ℤ) (m : Drawn) (e : m ≡ measured p) where
+  pub measure-refusal : m .refusal ≡ pathRefusal p
+  measure-refusal = ap (λ (d : Drawn). d .refusal) e ∙ measured-refusal p
 
   -- by the number that drawing refuses by
-  by-number : (k : ℕ) → drawRefusal F p (length list) ≡ k
-      → (refusalOr k refusedBy (answer (entries F p)) ≡ drawn F p (length list)) × (filled k (flat (entries F p)) list ≡ written F p list)
+  by-number : (k : ℕ) → drawRefusal p (length list) ≡ k
+      → (refusalOr k refusedBy (answer (entries p)) ≡ drawn p (length list)) × (filled k (flat (entries p)) list ≡ written p list)
   unfolding drawn written
   by-number k f =
-      (ap (λ (n : ℕ). refusalOr n refusedBy (answer (entries F p))) (sym f), ap (λ (n : ℕ). filled n (flat (entries F p)) list) (sym f))
+      (ap (λ (n : ℕ). refusalOr n refusedBy (answer (entries p))) (sym f), ap (λ (n : ℕ). filled n (flat (entries p)) list) (sym f))
 
-  pub drawn-refused : (m .refusal ≡ 0 → ⊥) → (m ≡ drawn F p (length list)) × (list ≡ written F p list)
+  pub drawn-refused : (m .refusal ≡ 0 → ⊥) → (m ≡ drawn p (length list)) × (list ≡ written p list)
   unfolding measured drawRefusal written
   drawn-refused h =
-      let stop : pathRefusal F p ≡ drawRefusal F p (length list) = sym (first-stop _ _ (λ z. h (measure-refusal ∙ z))) in (
-        e ∙ by-number (pathRefusal F p) (sym stop) .0,
+      let stop : pathRefusal p ≡ drawRefusal p (length list) = sym (first-stop _ _ (λ z. h (measure-refusal ∙ z))) in (
+        e ∙ by-number (pathRefusal p) (sym stop) .0,
         refuses (λ _. list) _ (measure-refusal ∙ stop) h,
       )
 
   -- an accepted path: the room decides
   module _ (z : m .refusal ≡ 0) where
-    accepted : pathRefusal F p ≡ 0
+    accepted : pathRefusal p ≡ 0
     accepted = sym measure-refusal ∙ z
 
-    whole : m ≡ answer (entries F p)
+    whole : m ≡ answer (entries p)
     unfolding measured
-    whole = e ∙ answers refusedBy (answer (entries F p)) accepted
+    whole = e ∙ answers refusedBy (answer (entries p)) accepted
 
-    count : m .points ≡ length (entries F p)
+    count : m .points ≡ length (entries p)
     count = ap (λ (d : Drawn). d .points) whole
 
-    by-room : (fits : Bool) → leb (entrySize * length (entries F p)) (length list) ≡ fits → drawRefusal F p (length list) ≡ unless fits 9 0
+    by-room : (fits : Bool) → leb (entrySize * length (entries p)) (length list) ≡ fits → drawRefusal p (length list) ≡ unless fits 9 0
     unfolding drawRefusal
     by-room fits f = first-on _ _ accepted ∙ ap (λ (b : Bool). unless b 9 0) f
 
-    pub drawn-nine : length list < entrySize * m .points → (refusedBy 9 ≡ drawn F p (length list)) × (list ≡ written F p list)
+    pub drawn-nine : length list < entrySize * m .points → (refusedBy 9 ≡ drawn p (length list)) × (list ≡ written p list)
     drawn-nine h = by-number 9 (by-room false (lt-leb _ (length list) (rw count at h)))
 
-    pub drawn-filled : entrySize * m .points ≤ length list → (m ≡ drawn F p (length list)) × (sets list 0 (flat (entries F p)) ≡ written F p list)
+    pub drawn-filled : entrySize * m .points ≤ length list → (m ≡ drawn p (length list)) × (sets list 0 (flat (entries p)) ≡ written p list)
     drawn-filled h =
         let l = rw count at h in
         let f = by-number 0 (by-room true (le-leb _ (length list) l)) in
-        (whole ∙ f .0, sets-front list (flat (entries F p)) (rw length-flat l) ∙ f .1)
+        (whole ∙ f .0, sets-front list (flat (entries p)) (rw length-flat l) ∙ f .1)

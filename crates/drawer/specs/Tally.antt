@@ -1,27 +1,30 @@
 -- What the drawer carries along a path: how many points there are so far, their length, and the last of them.
 use mathlib.Core.Path.{_≡_}
 use mathlib.Core.List.{List, [], _∷_}
-use Prim.Native.Nat.{ℕ, _+_, _*_, _≤_, _<_}
+use Prim.Native.Nat.{ℕ, _+_, _*_, _^_, _≤_, _<_}
 use lib.IntN.{ℤ}
 use lib.ListN.{length}
-use Rattle.rules.specs.Rules.{finest, degree, coordinates, mostSegments}
+use Rattle.rules.specs.Rules.{mostFinest, degree, coordinates, mostSegments}
 use Rattle.operations.specs.Refusals.{startRefusal}
+use Rattle.engine.specs.declared.Drawing.{Drawing}
 use Rattle.entries.specs.declared.Entry.{Entry}
 use Rattle.entries.specs.Length.{moveLength}
-use Rattle.drawer.specs.declared.Plan.{Plan}
 use Rattle.drawer.specs.declared.Tally.{Tally}
-use Rattle.path.specs.Path.{Path, path, controls, first}
+use Rattle.path.specs.declared.Shape.{Shape}
+use Rattle.path.specs.Path.{Path, controls, first}
 use Rattle.path.specs.Entries.{entry, following}
 
--- the path that a plan draws
-abbrev pub planned : List ℤ → Plan → Path
-planned points plan = path points (plan .segments) (plan .level) (plan .upper) (plan .lower)
-
 -- the start of segment k can be read, and is accepted
-pub record Ready (points : List ℤ) (level k : ℕ) : Type 0 where
+pub record Ready (points : List ℤ) (shape : Shape) (k : ℕ) : Type 0 where
   pub few : k < mostSegments
   pub inside : coordinates * (degree * k + degree + 1) ≤ length points
-  pub accepted : startRefusal finest (controls points k) level ≡ 0
+  pub accepted : startRefusal (shape .finest) (controls points k) (shape .level) ≡ 0
+
+-- a drawing of segment k whose position on the path fits 32 bits
+pub record Placed (d : Drawing) (k : ℕ) : Type 0 where
+  pub few : k < mostSegments
+  pub finest : d .finest ≤ mostFinest
+  pub within : d .q ≤ 2 ^ d .finest
 
 -- a tally of the start alone, and one with one more point
 unfoldable pub begun : Entry → Tally
@@ -39,5 +42,5 @@ unfoldable pub addedAll : Tally → List Entry → Tally
 addedAll t [] = t
 addedAll t (e ∷ es) = addedAll (added t e) es
 
-unfoldable pub tally : ℕ → Path → Tally
-tally F p = addedAll (begun (entry F 0 (first (p .points) (p .level) 0))) (following F p 0 (p .segments))
+unfoldable pub tally : Path → Tally
+tally p = addedAll (begun (entry (p .finest) 0 (first (p .finest) (p .points) (p .level) 0))) (following p 0 (p .segments))

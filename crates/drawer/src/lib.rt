@@ -2,32 +2,24 @@
 mod segments;
 
 ghost use mathlib.Core.Path.{_≡_};
-ghost use Prim.Native.Nat.{_+_, _*_, _^_, _≤_, _<_};
+ghost use Prim.Native.Nat.{_*_};
 ghost use lib.ListN.{length};
 ghost use lib.Seq.{sets};
-ghost use Rattle.rules.specs.Rules.{finest, standardUpper, standardLower, mostSegments};
+ghost use Rattle.rules.specs.Rules.{standardLimits};
 ghost use Rattle.entries.specs.Entries.{entrySize, numbers, flat};
 ghost use Rattle.path.specs.Path.{path, pathRefusal, first};
 ghost use Rattle.path.specs.Entries.{entry, entries};
 ghost use Rattle.path.specs.Answer.{refusedBy, measured, drawn, written};
-ghost use Rattle.drawer.specs.Tally.{planned, Ready, begun, added, Small, tally};
+ghost use Rattle.drawer.specs.Tally.{Ready, Placed, begun, added, Small, tally};
 use engine::Drawing;
 use engine::Next;
 use entries::ENTRY_SIZE;
 use entries::Entry;
 use path::Drawn;
-use rules::STANDARD_LOWER;
-use rules::STANDARD_UPPER;
+use path::Shape;
+use rules::Limits;
 use segments::entry_of;
 use segments::first_of;
-
-// How a path is drawn, beside its points.
-struct Plan {
-    segments: u32,
-    level: u32,
-    upper: u32,
-    lower: u32,
-}
 
 // What was drawn so far.
 struct Tally {
@@ -36,51 +28,32 @@ struct Tally {
     last: Entry,
 }
 
-// Draws a path into the front of `list`, four numbers a point. Refuses 14, 1, 2, 3, 4, 9, with the list as it was.
-pub fn draw(
-    points: &[i32],
-    segments: u32,
-    level: u32,
-    upper: u32,
-    lower: u32,
-    list: &mut [i32],
-) -> Drawn
-    ensures { λ r. ⌜ r ≡ drawn finest (path (now (points .entry)) segments level upper lower) (length (now (list .entry))) ⌝ }
-    ensures { λ _. ⌜ now (list .exit) ≡ written finest (path (now (points .entry)) segments level upper lower) (now (list .entry)) ⌝ }
+// Draws a path into the front of `list`, four numbers a point. Refuses 14, 24, 1, 2, 3, 4, 9, with the list as it was.
+pub fn draw(points: &[i32], shape: Shape, limits: Limits, list: &mut [i32]) -> Drawn
+    ensures { λ r. ⌜ r ≡ drawn (path (now (points .entry)) shape limits) (length (now (list .entry))) ⌝ }
+    ensures { λ _. ⌜ now (list .exit) ≡ written (path (now (points .entry)) shape limits) (now (list .entry)) ⌝ }
 {
-    let answer = measure(points, segments, level, upper, lower);
+    let answer = measure(points, shape, limits);
     if answer.refusal != 0 {
         return answer;
     }
     if list.len() < ENTRY_SIZE * (answer.points as usize) {
         return refuse(9);
     }
-    let plan = Plan {
-        segments: segments,
-        level: level,
-        upper: upper,
-        lower: lower,
-    };
-    run(points, plan, list);
+    run(points, shape, limits, list);
     answer
 }
 
-// The number of points and the length, without a list. Refuses 14, 1, 2, 3, 4.
-pub fn measure(points: &[i32], segments: u32, level: u32, upper: u32, lower: u32) -> Drawn
-    ensures { λ r. ⌜ r ≡ measured finest (path (now (points .entry)) segments level upper lower) ⌝ }
+// The number of points and the length, without a list. Refuses 14, 24, 1, 2, 3, 4.
+pub fn measure(points: &[i32], shape: Shape, limits: Limits) -> Drawn
+    ensures { λ r. ⌜ r ≡ measured (path (now (points .entry)) shape limits) ⌝ }
 {
-    let plan = Plan {
-        segments: segments,
-        level: level,
-        upper: upper,
-        lower: lower,
-    };
-    let refusal = refusal_of(points, plan);
+    let refusal = refusal_of(points, shape, limits);
     if refusal != 0 {
         return refuse(refusal);
     }
     let mut none = [0i32; 0];
-    let t = run(points, plan, &mut none);
+    let t = run(points, shape, limits, &mut none);
     Drawn {
         refusal: 0,
         points: t.points,
@@ -88,48 +61,40 @@ pub fn measure(points: &[i32], segments: u32, level: u32, upper: u32, lower: u32
     }
 }
 
-// The same under the standard limits, 65,536 and 32,768. Refuses 14, 1, 2, 3, 9.
-pub fn draw_standard(points: &[i32], segments: u32, level: u32, list: &mut [i32]) -> Drawn
-    ensures { λ r. ⌜ r ≡ drawn finest (path (now (points .entry)) segments level standardUpper standardLower) (length (now (list .entry))) ⌝ }
-    ensures { λ _. ⌜ now (list .exit) ≡ written finest (path (now (points .entry)) segments level standardUpper standardLower) (now (list .entry)) ⌝ }
+// The same under the standard limits, 65,536 and 32,768. Refuses 14, 24, 1, 2, 3, 9.
+pub fn draw_standard(points: &[i32], shape: Shape, list: &mut [i32]) -> Drawn
+    ensures { λ r. ⌜ r ≡ drawn (path (now (points .entry)) shape standardLimits) (length (now (list .entry))) ⌝ }
+    ensures { λ _. ⌜ now (list .exit) ≡ written (path (now (points .entry)) shape standardLimits) (now (list .entry)) ⌝ }
 {
-    draw(
-        points,
-        segments,
-        level,
-        STANDARD_UPPER,
-        STANDARD_LOWER,
-        list,
-    )
+    draw(points, shape, Limits::standard(), list)
 }
 
-// The same under the standard limits, 65,536 and 32,768. Refuses 14, 1, 2, 3.
-pub fn measure_standard(points: &[i32], segments: u32, level: u32) -> Drawn
-    ensures { λ r. ⌜ r ≡ measured finest (path (now (points .entry)) segments level standardUpper standardLower) ⌝ }
+// The same under the standard limits, 65,536 and 32,768. Refuses 14, 24, 1, 2, 3.
+pub fn measure_standard(points: &[i32], shape: Shape) -> Drawn
+    ensures { λ r. ⌜ r ≡ measured (path (now (points .entry)) shape standardLimits) ⌝ }
 {
-    measure(points, segments, level, STANDARD_UPPER, STANDARD_LOWER)
+    measure(points, shape, Limits::standard())
 }
 
 // ---- refusals
 
-fn refusal_of(points: &[i32], plan: Plan) -> u32
-    ensures { λ r. ⌜ r ≡ pathRefusal finest (planned (now (points .entry)) plan) ⌝ }
+fn refusal_of(points: &[i32], shape: Shape, limits: Limits) -> u32
+    ensures { λ r. ⌜ r ≡ pathRefusal (path (now (points .entry)) shape limits) ⌝ }
 {
-    let segments = plan.segments;
-    let level = plan.level;
-    let upper = plan.upper;
-    let lower = plan.lower;
-    if !rules::size(segments, points.len()) {
+    if !rules::size(shape.segments, points.len()) {
         return 14;
     }
-    let refusal = rules::points_refusal(points);
+    if !rules::finest(shape.finest) {
+        return 24;
+    }
+    let refusal = rules::points_refusal(rules::reach(shape.finest), points);
     if refusal != 0 {
         return refusal;
     }
-    if !rules::level(level) {
+    if !rules::level(shape.finest, shape.level) {
         return 3;
     }
-    if !rules::limits(upper, lower) {
+    if !limits.lawful() {
         return 4;
     }
     0
@@ -148,21 +113,18 @@ fn refuse(refusal: u32) -> Drawn
 // ---- the drawer
 
 // Draws every segment of an accepted path: its entries go to the front of `list`, as far as it reaches.
-fn run(points: &[i32], plan: Plan, list: &mut [i32]) -> Tally
-    requires { ⌜ pathRefusal finest (planned (now points) plan) ≡ 0 ⌝ }
-    ensures { λ r. ⌜ r ≡ tally finest (planned (now (points .entry)) plan) ⌝ }
-    ensures { λ _. ⌜ now (list .exit) ≡ sets (now (list .entry)) 0 (flat (entries finest (planned (now (points .entry)) plan))) ⌝ }
+fn run(points: &[i32], shape: Shape, limits: Limits, list: &mut [i32]) -> Tally
+    requires { ⌜ pathRefusal (path (now points) shape limits) ≡ 0 ⌝ }
+    ensures { λ r. ⌜ r ≡ tally (path (now (points .entry)) shape limits) ⌝ }
+    ensures { λ _. ⌜ now (list .exit) ≡ sets (now (list .entry)) 0 (flat (entries (path (now (points .entry)) shape limits))) ⌝ }
 {
-    let segments = plan.segments;
-    let level = plan.level;
-    let upper = plan.upper;
-    let lower = plan.lower;
-    let mut t = begin(points, level, list);
+    let segments = shape.segments;
+    let mut t = begin(points, shape, list);
     let mut k: u32 = 0;
     'segments: while k < segments {
-        let mut d = first_of(points, k, level);
+        let mut d = first_of(points, shape, k);
         'operations: loop {
-            let next = d.next(upper, lower);
+            let next = d.next(limits);
             match next {
                 Next::Halve => d = d.halve().drawing,
                 Next::Double => d = d.double().drawing,
@@ -179,12 +141,12 @@ fn run(points: &[i32], plan: Plan, list: &mut [i32]) -> Tally
 }
 
 // The start, with its entry.
-fn begin(points: &[i32], level: u32, list: &mut [i32]) -> Tally
-    requires { ⌜ Ready (now points) level 0 ⌝ }
-    ensures { λ r. ⌜ r ≡ begun (entry finest 0 (first (now (points .entry)) level 0)) ⌝ }
-    ensures { λ _. ⌜ now (list .exit) ≡ sets (now (list .entry)) 0 (numbers (entry finest 0 (first (now (points .entry)) level 0))) ⌝ }
+fn begin(points: &[i32], shape: Shape, list: &mut [i32]) -> Tally
+    requires { ⌜ Ready (now points) shape 0 ⌝ }
+    ensures { λ r. ⌜ r ≡ begun (entry (shape .finest) 0 (first (shape .finest) (now (points .entry)) (shape .level) 0)) ⌝ }
+    ensures { λ _. ⌜ now (list .exit) ≡ sets (now (list .entry)) 0 (numbers (entry (shape .finest) 0 (first (shape .finest) (now (points .entry)) (shape .level) 0))) ⌝ }
 {
-    let d = first_of(points, 0, level);
+    let d = first_of(points, shape, 0);
     let start = entry_of(d, 0);
     entries::put(list, 0, start);
     Tally {
@@ -196,9 +158,9 @@ fn begin(points: &[i32], level: u32, list: &mut [i32]) -> Tally
 
 // One point more, with its entry.
 fn show(t: Tally, d: Drawing, k: u32, list: &mut [i32]) -> Tally
-    requires { ⌜ Small t × (k < mostSegments) × (d .q ≤ 2 ^ finest) ⌝ }
-    ensures { λ r. ⌜ r ≡ added t (entry finest k d) ⌝ }
-    ensures { λ _. ⌜ now (list .exit) ≡ sets (now (list .entry)) (entrySize * t .points) (numbers (entry finest k d)) ⌝ }
+    requires { ⌜ Small t × Placed d k ⌝ }
+    ensures { λ r. ⌜ r ≡ added t (entry (d .finest) k d) ⌝ }
+    ensures { λ _. ⌜ now (list .exit) ≡ sets (now (list .entry)) (entrySize * t .points) (numbers (entry (d .finest) k d)) ⌝ }
 {
     let e = entry_of(d, k);
     entries::put(list, ENTRY_SIZE * (t.points as usize), e);

@@ -1,24 +1,24 @@
 // A segment of a path: its control points, the drawing that it starts from, and a drawing's entry.
 ghost use mathlib.Core.Path.{_≡_};
-ghost use Prim.Native.Nat.{_+_, _*_, _^_, _≤_, _<_};
+ghost use Prim.Native.Nat.{_+_, _*_, _≤_, _<_};
 ghost use lib.ListN.{length};
-ghost use Rattle.rules.specs.Rules.{finest, degree, coordinates, mostSegments};
+ghost use Rattle.rules.specs.Rules.{degree, coordinates, mostSegments};
 ghost use Rattle.path.specs.Path.{control, first};
 ghost use Rattle.path.specs.Entries.{entry};
-ghost use Rattle.drawer.specs.Tally.{Ready};
+ghost use Rattle.drawer.specs.Tally.{Ready, Placed};
 use coordinate::Control;
 use engine::Drawing;
 use entries::Entry;
+use path::Shape;
 use rules::COORDINATES;
 use rules::DEGREE;
-use rules::FINEST;
 
 // The entry of a drawing of segment k.
 pub(crate) fn entry_of(d: Drawing, k: u32) -> Entry
-    requires { ⌜ (k < mostSegments) × (d .q ≤ 2 ^ finest) ⌝ }
-    ensures { λ r. ⌜ r ≡ entry finest k d ⌝ }
+    requires { ⌜ Placed d k ⌝ }
+    ensures { λ r. ⌜ r ≡ entry (d .finest) k d ⌝ }
 {
-    let position = (k << FINEST) + d.q;
+    let position = (k << d.finest) + d.q;
     let shown = d.shown();
     Entry {
         position: position as i32,
@@ -29,14 +29,14 @@ pub(crate) fn entry_of(d: Drawing, k: u32) -> Entry
 }
 
 // The drawing that segment k starts from.
-pub(crate) fn first_of(points: &[i32], k: u32, level: u32) -> Drawing
-    requires { ⌜ Ready (now points) level k ⌝ }
-    ensures { λ r. ⌜ r ≡ first (now (points .entry)) level k ⌝ }
+pub(crate) fn first_of(points: &[i32], shape: Shape, k: u32) -> Drawing
+    requires { ⌜ Ready (now points) shape k ⌝ }
+    ensures { λ r. ⌜ r ≡ first (shape .finest) (now (points .entry)) (shape .level) k ⌝ }
 {
     let x = control_of(points, 0, k);
     let y = control_of(points, 1, k);
     let width = control_of(points, 2, k);
-    Drawing::start(x, y, width, level).drawing
+    Drawing::start(x, y, width, shape.finest, shape.level).drawing
 }
 
 // Coordinate c of segment k's points.

@@ -1,5 +1,5 @@
 -- What is known of each segment of an accepted path.
-use mathlib.Core.Path.{_≡_, refl, ap, _∙_}
+use mathlib.Core.Path.{_≡_, refl, sym, ap, _∙_, subst}
 use mathlib.Core.Bool.{true}
 use mathlib.Core.List.{List, [], _∷_, _++_}
 use Prim.Native.Nat.{ℕ, _^_, _<_}
@@ -61,6 +61,10 @@ module _ (p : Path) (k : ℕ) where
 
   pub of-inside : (d : Drawing) → Of p k d → isDrawing (p .finest) (d .level) (d .q) ≡ true
   of-inside d = kept-inside (p .finest) _ d
+
+  -- by its own finest level
+  pub of-lies : (d : Drawing) → Of p k d → isDrawing (d .finest) (d .level) (d .q) ≡ true
+  of-lies d on = subst (λ (G : ℕ). isDrawing G (d .level) (d .q) ≡ true) (sym (on .finest)) (of-inside d on)
 
   pub of-next : (d : Drawing) → Of p k d → d .q < 2 ^ p .finest → Of p k (next (p .upper) (p .lower) d)
   of-next d on h = kept-turned (p .finest) _ d (chosen (p .upper) (p .lower) d) on (kept-chosen (p .finest) _ d on (p .upper) (p .lower) h)

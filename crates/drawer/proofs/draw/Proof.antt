@@ -2,7 +2,6 @@
 use mathlib.Core.Path.{sym, _∙_}
 use mathlib.Core.List.{[]}
 use borrow.Author.Needs.{needs}
-use Rattle.rules.specs.Rules.{finest}
 use Rattle.drawer.proofs.Answers.{measure-refusal, drawn-refused, drawn-nine, drawn-filled}
 use Rattle.drawer.proofs.draw.Statement.{statement}
 use Rattle.drawer.proofs.draw.Tie as tie
@@ -11,7 +10,7 @@ measure-requires : tie.Need-measure-requires
 measure-requires c κs = search needs
 
 returns : tie.Need-returns
-returns c = drawn-refused finest _ _ _ (c .before .before .measure .ensures) (c .if1 .taken)
+returns c = drawn-refused _ _ _ (c .before .before .measure .ensures) (c .if1 .taken)
 
 cast-if2 : tie.Need-cast-if2
 cast-if2 c = search needs
@@ -25,13 +24,13 @@ refuse-requires c κs = search needs
 returns-2 : tie.Need-returns-2
 returns-2 c =
     let a = c .before .before .before in
-    let d = drawn-nine finest _ _ _ (a .before .before .measure .ensures) (a .if1 .left) (c .before .if2 .taken) in
+    let d = drawn-nine _ _ _ (a .before .before .measure .ensures) (a .if1 .left) (c .before .if2 .taken) in
     (c .refuse .ensures ∙ d .0, d .1)
 
 run-requires : tie.Need-run-requires
 run-requires c κs =
     let a = c .before .before .before in
-    sym (measure-refusal finest _ [] _ (a .before .before .measure .ensures)) ∙ a .if1 .left
+    sym (measure-refusal _ [] _ (a .before .before .measure .ensures)) ∙ a .if1 .left
 
 same-length : tie.Need-same-length
 same-length c = search needs
@@ -40,7 +39,7 @@ returns-3 : tie.Need-returns-3
 returns-3 c =
     let b = c .before .before .before in
     let a = b .before .before in
-    let d = drawn-filled finest _ _ _ (a .before .before .measure .ensures) (a .if1 .left) (b .if2 .left) in
+    let d = drawn-filled _ _ _ (a .before .before .measure .ensures) (a .if1 .left) (b .if2 .left) in
     (d .0, c .before .run .ensures .1 ∙ d .1)
 
 pub draw-spec : {M : Type 1} → statement M

@@ -1,7 +1,6 @@
 -- The tally of a run on an empty list is the answer.
 use mathlib.Core.Path.{sym, ap, _∙_}
 use borrow.Author.Needs.{needs}
-use Rattle.rules.specs.Rules.{finest}
 use Rattle.rules.proofs.Refusals.{refuses}
 use Rattle.path.specs.Answer.{refusedBy, measured}
 use Rattle.drawer.specs.declared.Tally.{Tally}
@@ -29,7 +28,7 @@ returns-2 : tie.Need-returns-2
 returns-2 c =
     let a = c .before .before .before in
     ap (λ (t : Tally). record { refusal = 0; points = t .points; length = t .length }) (c .before .run .ensures .0)
-    ∙ measured-tally finest _ (sym (a .before .refusal-of .ensures) ∙ a .if1 .left)
+    ∙ measured-tally _ (sym (a .before .refusal-of .ensures) ∙ a .if1 .left)
 
 pub measure-spec : {M : Type 1} → statement M
 measure-spec =

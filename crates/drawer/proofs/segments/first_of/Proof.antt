@@ -1,7 +1,6 @@
 -- The start is accepted, so that it begins.
 use mathlib.Core.Path.{ap, _∙_}
 use borrow.Author.Needs.{needs}
-use Rattle.rules.specs.Rules.{finest}
 use Rattle.coordinate.specs.declared.Control.{Control}
 use Rattle.operations.specs.Coordinates.{Coordinate, pick}
 use Rattle.operations.proofs.Every.{picked}
@@ -35,9 +34,9 @@ returns c =
     let p = controls (a .points .now) (a .k) in
     ap (λ (m : Moved). m .drawing)
     (c .before .start .ensures
-    ∙ (λ i. started finest (pick (x i) (y i) (width i)) (a .level))
-    ∙ ap (λ (p : Coordinate → Control). started finest p (a .level)) (picked p)
-    ∙ start-begins finest p (a .level) (s .pre .accepted))
+    ∙ (λ i. started (a .shape .finest) (pick (x i) (y i) (width i)) (a .shape .level))
+    ∙ ap (λ (p : Coordinate → Control). started (a .shape .finest) p (a .shape .level)) (picked p)
+    ∙ start-begins (a .shape .finest) p (a .shape .level) (s .pre .accepted))
 
 pub first-of-spec : {M : Type 1} → statement M
 first-of-spec =
