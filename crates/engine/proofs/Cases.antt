@@ -1,5 +1,6 @@
--- The starred cases C to J of document 01, as one statement over a table of them. A row has the control points of x, the start level and
--- the calls, each case from its own start; and the document's numbers. The other coordinates are 0 throughout.
+-- The starred cases C to J of document 01, as one statement over a table of them. A row has the finest level, 11 in the document's, the control
+-- points of x, the start level and the calls, each case from its own start; and the document's numbers. The other coordinates are 0 throughout.
+-- The rows at finest levels 6 and 12 are not the document's: their numbers are the model's.
 use mathlib.Core.Path.{_≡_}
 use mathlib.Core.Bool.{Bool, true, cond}
 use mathlib.Core.List.{List, [], _∷_}
@@ -24,13 +25,15 @@ use Rattle.engine.specs.declared.Moved.{Moved}
 use Rattle.engine.specs.Drawing.{turned, called}
 use Rattle.engine.specs.Start.{zeros, started}
 
--- the numbers that the document gives, where it gives them
+-- the numbers that the document gives, where it gives them; `own` is the finest level of the drawing reached, 0 after a refused start, and `to` its level
 pub record Row : Type 0 where
   pub finest : ℕ
   pub points : Control
   pub level : ℕ
   pub calls : List Operation
   pub refusal : ℕ
+  pub own : ℕ
+  pub to : Option ℕ
   pub q : Option ℕ
   pub a : Option ℤ
   pub b : Option ℤ
@@ -55,6 +58,8 @@ Agrees (some y) x = x ≡ y
 
 pub record Holds (w : Row) : Type 0 where
   pub refusal : reached w .refusal ≡ w .refusal
+  pub own : reached w .drawing .finest ≡ w .own
+  pub to : Agrees (w .to) (reached w .drawing .level)
   pub q : Agrees (w .q) (reached w .drawing .q)
   pub a : Agrees (w .a) (reached w .drawing .x .a)
   pub b : Agrees (w .b) (reached w .drawing .x .b)
@@ -68,13 +73,39 @@ pub record Holds (w : Row) : Type 0 where
 abbrev pub line : ℤ → ℤ → ℤ → ℤ → Control
 line p q r s = record { p0 = p; p1 = q; p2 = r; p3 = s }
 
--- a row whose start is accepted
+-- a row whose start is accepted, at finest level 11
 abbrev row : Control → ℕ → List Operation → Option ℕ → Option ℤ → Option ℤ → Option ℤ → Option ℤ → Row
-row p n ops q a b c d = record { finest = 11; points = p; level = n; calls = ops; refusal = 0; q = q; a = a; b = b; c = c; d = d }
+row p n ops q a b c d =
+    record { finest = 11; points = p; level = n; calls = ops; refusal = 0; own = 11; to = none; q = q; a = a; b = b; c = c; d = d }
 
--- a row of which the document gives the refusal alone
-abbrev gives : Control → ℕ → ℕ → Row
-gives p n k = record { finest = 11; points = p; level = n; calls = []; refusal = k; q = none; a = none; b = none; c = none; d = none }
+-- rows of which the refusal of the start alone is given: none, or the number k
+abbrev begins : ℕ → Control → ℕ → ℕ → ℕ → Row
+begins F p n k own =
+    record { finest = F; points = p; level = n; calls = []; refusal = k; own = own; to = none; q = none; a = none; b = none; c = none; d = none }
+
+abbrev accepts : ℕ → Control → ℕ → Row
+accepts F p n = begins F p n 0 F
+
+abbrev refuses : ℕ → Control → ℕ → ℕ → Row
+refuses F p n k = begins F p n k 0
+
+-- a row at any finest level, of which the last call is refused by k, 0 for none
+abbrev ends : ℕ → Control → ℕ → List Operation → ℕ → ℕ → ℕ → ℤ → ℤ → ℤ → ℤ → Row
+ends F p n ops k m q a b c d =
+    record {
+      finest = F;
+      points = p;
+      level = n;
+      calls = ops;
+      refusal = k;
+      own = F;
+      to = some m;
+      q = some q;
+      a = some a;
+      b = some b;
+      c = some c;
+      d = some d;
+    }
 
 abbrev eight : Control
 eight = line (pos 0) (pos 0) (pos 0) (pos 8)
@@ -84,6 +115,16 @@ one = line (pos 0) (pos 0) (pos 0) (pos 1)
 
 abbrev minus-one : Control
 minus-one = line (pos 0) (pos 0) (pos 0) (negsuc 0)
+
+-- the last two points are as far apart as they may be at finest level 6, and at 12
+abbrev twenty : Control
+twenty = line (pos 0) (pos 0) (pos 0) (pos 20)
+
+abbrev farthest : Control
+farthest = line (pos 0) (pos 0) (pos 0) (pos 682)
+
+abbrev thrice : Operation → List Operation
+thrice op = op ∷ op ∷ op ∷ []
 
 unfoldable pub table : List Row
 table =
@@ -103,13 +144,31 @@ table =
     ∷ row minus-one 9 [] none none none (some (negsuc 0)) none
     ∷ row minus-one 9 (step ∷ []) none none (some (negsuc 1535)) (some (negsuc 2)) (some (negsuc 0))
     -- I: 0,682,682,682 accepted; 0,683,683,683 refused 2
-    ∷ gives (line (pos 0) (pos 682) (pos 682) (pos 682)) 0 0
-    ∷ gives (line (pos 0) (pos 683) (pos 683) (pos 683)) 0 2
+    ∷ accepts 11 (line (pos 0) (pos 682) (pos 682) (pos 682)) 0
+    ∷ refuses 11 (line (pos 0) (pos 683) (pos 683) (pos 683)) 0 2
     -- J: level 11 accepted, 12 refused 3; with all four points equal, coordinate 16,383 accepted, 16,384 refused 1
-    ∷ gives (flat (pos 0)) 11 0
-    ∷ gives (flat (pos 0)) 12 3
-    ∷ gives (flat (pos 16383)) 0 0
-    ∷ gives (flat (pos 16384)) 0 1
+    ∷ accepts 11 (flat (pos 0)) 11
+    ∷ refuses 11 (flat (pos 0)) 12 3
+    ∷ accepts 11 (flat (pos 16383)) 0
+    ∷ refuses 11 (flat (pos 16384)) 0 1
+    -- not document 01's: at finest level 6 a start, halves down to level 6 with 6 refused there, steps to q = 64 with 5 there
+    ∷ ends 6 twenty 0 [] 0 0 0 (pos 7864320) (pos 7864320) (pos 1310720) (pos 0)
+    ∷ ends 6 twenty 4 (thrice halve) 6 6 0 (pos 122880) (pos 122880) (pos 320) (pos 0)
+    ∷ ends 6 twenty 2 (step ∷ step ∷ thrice step) 5 2 64 (pos 1966080) (pos 9830400) (pos 4997120) (pos 1310720)
+    -- neighbours 20 and 21 apart, levels 6 and 7
+    ∷ refuses 6 (line (pos 0) (pos 0) (pos 0) (pos 21)) 0 2
+    ∷ accepts 6 twenty 6
+    ∷ refuses 6 twenty 7 3
+    -- the same at finest level 12: 6 at level 12, 5 at q = 4,096, neighbours 682 and 683 apart, levels 12 and 13
+    ∷ ends 12 farthest 0 [] 0 0 0 (pos 268173312) (pos 268173312) (pos 44695552) (pos 0)
+    ∷ ends 12 farthest 10 (thrice halve) 6 12 0 (pos 65472) (pos 65472) (pos 4) (pos 0)
+    ∷ ends 12 farthest 2 (step ∷ step ∷ thrice step) 5 2 4096 (pos 67043328) (pos 335216640) (pos 170401792) (pos 44695552)
+    ∷ refuses 12 (line (pos 0) (pos 0) (pos 0) (pos 683)) 0 2
+    ∷ accepts 12 farthest 12
+    ∷ refuses 12 farthest 13 3
+    -- finest levels 5 and 13 are refused 24
+    ∷ refuses 5 (flat (pos 0)) 0 24
+    ∷ refuses 13 (flat (pos 0)) 0 24
     ∷ []
 
 -- ---- one test for all
@@ -146,6 +205,8 @@ still-zeros r t =
 abbrev tests : Row → List Bool
 tests w =
     eqb (reached w .refusal) (w .refusal)
+    ∷ eqb (reached w .drawing .finest) (w .own)
+    ∷ agrees eqb (w .to) (reached w .drawing .level)
     ∷ agrees eqb (w .q) (reached w .drawing .q)
     ∷ agrees eqbℤ (w .a) (reached w .drawing .x .a)
     ∷ agrees eqbℤ (w .b) (reached w .drawing .x .b)
@@ -163,15 +224,18 @@ right-holds w t =
     let m = reached w in
     let r = m .drawing .x in
     let ts = each (tests w) t in
+    let us = ts .1 .1 in
     record {
       refusal = eqb→eq (m .refusal) (w .refusal) (ts .0);
-      q = agreed eqb eqb→eq (w .q) (m .drawing .q) (ts .1 .0);
-      a = agreed eqbℤ eqbℤ→eq (w .a) (r .a) (ts .1 .1 .0);
-      b = agreed eqbℤ eqbℤ→eq (w .b) (r .b) (ts .1 .1 .1 .0);
-      c = agreed eqbℤ eqbℤ→eq (w .c) (r .c) (ts .1 .1 .1 .1 .0);
-      d = agreed eqbℤ eqbℤ→eq (w .d) (r .d) (ts .1 .1 .1 .1 .1 .0);
-      y = still-zeros (m .drawing .y) (ts .1 .1 .1 .1 .1 .1 .0);
-      width = still-zeros (m .drawing .width) (ts .1 .1 .1 .1 .1 .1 .1 .0);
+      own = eqb→eq (m .drawing .finest) (w .own) (ts .1 .0);
+      to = agreed eqb eqb→eq (w .to) (m .drawing .level) (us .0);
+      q = agreed eqb eqb→eq (w .q) (m .drawing .q) (us .1 .0);
+      a = agreed eqbℤ eqbℤ→eq (w .a) (r .a) (us .1 .1 .0);
+      b = agreed eqbℤ eqbℤ→eq (w .b) (r .b) (us .1 .1 .1 .0);
+      c = agreed eqbℤ eqbℤ→eq (w .c) (r .c) (us .1 .1 .1 .1 .0);
+      d = agreed eqbℤ eqbℤ→eq (w .d) (r .d) (us .1 .1 .1 .1 .1 .0);
+      y = still-zeros (m .drawing .y) (us .1 .1 .1 .1 .1 .1 .0);
+      width = still-zeros (m .drawing .width) (us .1 .1 .1 .1 .1 .1 .1 .0);
     }
 
 pub starred : All Holds table

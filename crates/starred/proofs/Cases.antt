@@ -1,6 +1,6 @@
 -- The starred cases A to K of document 01, as one statement over one table. A row is a row of the engine's table, cited, or a path of one
--- segment with its list. In the document's rows one coordinate moves, and the others are 0 throughout; two rows of order 8, in which the width
--- moves, are reckoned by hand.
+-- segment with its list. In the document's rows one coordinate moves, the others are 0 throughout, and the finest level is 11. Two rows of order 8, in
+-- which the width moves, are reckoned by hand; those of order 9, at the finest levels 6 and 12, are not the document's: their numbers are the model's.
 use mathlib.Core.Path.{_≡_}
 use mathlib.Core.Bool.{Bool, _&&_}
 use mathlib.Core.List.{List, [], _∷_, _++_, map}
@@ -14,7 +14,7 @@ use Rattle.numbers.specs.Tests.{eqbℤs}
 use Rattle.numbers.proofs.Tests.{eqbℤs→eq}
 use Rattle.numbers.specs.Tables.{All, every}
 use Rattle.numbers.proofs.Tables.{tested, all-append, all-map}
-use Rattle.rules.specs.Rules.{finest, isCoordinate, areNeighbours, isLevel, areLimits, isSegments, isSize, arePoints, areBeside, areChained, pointsRefusal}
+use Rattle.rules.specs.Rules.{isFinest, reach, isCoordinate, areNeighbours, isLevel, areLimits, isSegments, isSize, arePoints, areBeside, areChained, pointsRefusal}
 use Rattle.coordinate.specs.declared.Control.{Control}
 use Rattle.coordinate.specs.Curve.{curve}
 use Rattle.coordinate.specs.Registers.{startRegisters, turn}
@@ -36,6 +36,7 @@ use Rattle.path.specs.Answer.{drawRefusal, measured, drawn, written}
 -- the control points of each coordinate, and the list: its positions, and what it shows of each coordinate; its length, where it is given
 pub record Row : Type 0 where
   pub points : Coordinate → Control
+  pub finest : ℕ
   pub level : ℕ
   pub upper : ℕ
   pub lower : ℕ
@@ -50,7 +51,8 @@ point p number = number (p in-x) ∷ number (p in-y) ∷ number (p in-width) ∷
 abbrev pub pathOf : Row → Path
 pathOf w =
     let p : Coordinate → Control = w .points in
-    path (point p (λ q. q .p0) ++ (point p (λ q. q .p1) ++ (point p (λ q. q .p2) ++ point p (λ q. q .p3)))) 1 (w .level) (w .upper) (w .lower)
+    path (point p (λ q. q .p0) ++ (point p (λ q. q .p1) ++ (point p (λ q. q .p2) ++ point p (λ q. q .p3))))
+    (record { segments = 1; finest = w .finest; level = w .level }) (record { upper = w .upper; lower = w .lower })
 
 -- the list as numbers: position, x, y and width of entry i and of those after it
 abbrev numbersFrom : ℕ → List ℕ → (Coordinate → List ℤ) → List ℤ
@@ -71,7 +73,7 @@ abbrev pub lent : Row → List ℤ
 lent w = unwritten (entrySize * length (w .positions) + 2)
 
 abbrev pub answer : Row → Drawn
-answer w = drawn finest (pathOf w) (length (lent w))
+answer w = drawn (pathOf w) (length (lent w))
 
 -- drawing answers and writes the list and leaves the two numbers after it; measuring answers the same
 pub record Listed (w : Row) : Type 0 where
@@ -79,8 +81,8 @@ pub record Listed (w : Row) : Type 0 where
   pub refusal : answer w .refusal ≡ 0
   pub points : answer w .points ≡ length (w .positions)
   pub total : engine.Agrees (w .total) (answer w .length)
-  pub list : written finest (pathOf w) (lent w) ≡ numbersOf w ++ unwritten 2
-  pub alike : measured finest (pathOf w) ≡ answer w
+  pub list : written (pathOf w) (lent w) ≡ numbersOf w ++ unwritten 2
+  pub alike : measured (pathOf w) ≡ answer w
 
 pub data Case : Type 0 where
   calls : engine.Row → Case
@@ -93,15 +95,19 @@ Holds (draws w) = Listed w
 -- ---- the table
 
 -- limits 65,536 and 32,768
-abbrev row : (Coordinate → Control) → ℕ → List ℕ → (Coordinate → List ℤ) → Option ℕ → Row
-row p n qs shown total =
-    record { points = p; level = n; upper = 65536; lower = 32768; positions = qs; shown = shown; total = total }
+abbrev row : ℕ → (Coordinate → Control) → ℕ → List ℕ → (Coordinate → List ℤ) → Option ℕ → Row
+row F p n qs shown total =
+    record { points = p; finest = F; level = n; upper = 65536; lower = 32768; positions = qs; shown = shown; total = total }
 
--- the document's rows: x moves
-abbrev in-x-alone : Control → ℕ → List ℕ → List ℤ → Option ℕ → Row
-in-x-alone p n qs xs total =
+-- x moves
+abbrev at-finest : ℕ → Control → ℕ → List ℕ → List ℤ → Option ℕ → Row
+at-finest F p n qs xs total =
     let none : List ℤ = replicate (length qs) (pos 0) in
-    row (pick p (engine.flat (pos 0)) (engine.flat (pos 0))) n qs (pick xs none none) total
+    row F (pick p (engine.flat (pos 0)) (engine.flat (pos 0))) n qs (pick xs none none) total
+
+-- the document's rows
+abbrev in-x-alone : Control → ℕ → List ℕ → List ℤ → Option ℕ → Row
+in-x-alone = at-finest 11
 
 unfoldable pub moving : List Row
 moving =
@@ -128,32 +134,53 @@ still =
 unfoldable pub widening : List Row
 widening =
     -- the width alone moves, widths 0, 682, 1364, 2046, level 0: it takes no part in choosing, so that there are two entries
-    row (pick (engine.flat (pos 0)) (engine.flat (pos 0)) (engine.line (pos 0) (pos 682) (pos 1364) (pos 2046))) 0
+    row 11 (pick (engine.flat (pos 0)) (engine.flat (pos 0)) (engine.line (pos 0) (pos 682) (pos 1364) (pos 2046))) 0
     (0 ∷ 2048 ∷ [])
     (pick (pos 0 ∷ pos 0 ∷ []) (pos 0 ∷ pos 0 ∷ []) (pos 0 ∷ pos 2046 ∷ []))
     (some 0)
     -- x as in A, y as in B, and a lane that narrows from 24 to 9
-    ∷ row (pick (engine.line (pos 0) (pos 1) (pos 2) (pos 3)) (engine.line (pos 3) (pos 2) (pos 1) (pos 0)) (engine.line (pos 24) (pos 19) (pos 14) (pos 9))) 0
+    ∷ row 11 (pick (engine.line (pos 0) (pos 1) (pos 2) (pos 3)) (engine.line (pos 3) (pos 2) (pos 1) (pos 0)) (engine.line (pos 24) (pos 19) (pos 14) (pos 9))) 0
     (0 ∷ 512 ∷ 1024 ∷ 1536 ∷ 2048 ∷ [])
     (pick (pos 0 ∷ pos 1 ∷ pos 2 ∷ pos 2 ∷ pos 3 ∷ []) (pos 3 ∷ pos 2 ∷ pos 2 ∷ pos 1 ∷ pos 0 ∷ []) (pos 24 ∷ pos 20 ∷ pos 17 ∷ pos 13 ∷ pos 9 ∷ []))
     (some 4828)
     ∷ []
 
--- A and B, the engine's C to J, K, and the width's
+-- A's points and L's, as many positions and points as at 11
+unfoldable pub finer : List Row
+finer =
+    at-finest 6 (engine.line (pos 0) (pos 1) (pos 2) (pos 3)) 6
+    (0 ∷ 16 ∷ 32 ∷ 48 ∷ 64 ∷ [])
+    (pos 0 ∷ pos 1 ∷ pos 2 ∷ pos 2 ∷ pos 3 ∷ [])
+    (some 3000)
+    ∷ at-finest 6 (engine.line (pos 0) (pos 0) (pos 0) (pos 8)) 0
+    (0 ∷ 32 ∷ 40 ∷ 44 ∷ 48 ∷ 52 ∷ 54 ∷ 56 ∷ 58 ∷ 60 ∷ 62 ∷ 64 ∷ [])
+    (pos 0 ∷ pos 1 ∷ pos 2 ∷ pos 3 ∷ pos 3 ∷ pos 4 ∷ pos 5 ∷ pos 5 ∷ pos 6 ∷ pos 7 ∷ pos 7 ∷ pos 8 ∷ [])
+    (some 8000)
+    ∷ at-finest 12 (engine.line (pos 0) (pos 1) (pos 2) (pos 3)) 12
+    (0 ∷ 1024 ∷ 2048 ∷ 3072 ∷ 4096 ∷ [])
+    (pos 0 ∷ pos 1 ∷ pos 2 ∷ pos 2 ∷ pos 3 ∷ [])
+    (some 3000)
+    ∷ at-finest 12 (engine.line (pos 0) (pos 0) (pos 0) (pos 8)) 0
+    (0 ∷ 2048 ∷ 2560 ∷ 2816 ∷ 3072 ∷ 3328 ∷ 3456 ∷ 3584 ∷ 3712 ∷ 3840 ∷ 3968 ∷ 4096 ∷ [])
+    (pos 0 ∷ pos 1 ∷ pos 2 ∷ pos 3 ∷ pos 3 ∷ pos 4 ∷ pos 5 ∷ pos 5 ∷ pos 6 ∷ pos 7 ∷ pos 7 ∷ pos 8 ∷ [])
+    (some 8000)
+    ∷ []
+
+-- A and B, the engine's C to J and its rows at other finest levels, K, the width's, and those at other finest levels
 unfoldable pub table : List Case
-table = map draws moving ++ (map calls engine.table ++ (map draws still ++ map draws widening))
+table = map draws moving ++ (map calls engine.table ++ (map draws still ++ (map draws widening ++ map draws finer)))
 
 -- ---- one test for all
 
 abbrev tests : Row → List Bool
 tests w =
     let a : Drawn = answer w in
-    let m : Drawn = measured finest (pathOf w) in
+    let m : Drawn = measured (pathOf w) in
     everyCoordinate (λ c. eqb (length (w .shown c)) (length (w .positions)))
     ∷ eqb (a .refusal) 0
     ∷ eqb (a .points) (length (w .positions))
     ∷ engine.agrees eqb (w .total) (a .length)
-    ∷ eqbℤs (written finest (pathOf w) (lent w)) (numbersOf w ++ unwritten 2)
+    ∷ eqbℤs (written (pathOf w) (lent w)) (numbersOf w ++ unwritten 2)
     ∷ eqb (m .refusal) (a .refusal)
     ∷ eqb (m .points) (a .points)
     ∷ eqb (m .length) (a .length)
@@ -171,7 +198,7 @@ each-coordinate holds t in-width = and-yes (holds in-x && holds in-y) (holds in-
 right-listed : (w : Row) → T (right w) → Listed w
 right-listed w t =
     let a = answer w in
-    let m = measured finest (pathOf w) in
+    let m = measured (pathOf w) in
     let ts = engine.each (tests w) t in
     let us = ts .1 .1 .1 .1 .1 in
     record {
@@ -179,7 +206,7 @@ right-listed w t =
       refusal = eqb→eq (a .refusal) 0 (ts .1 .0);
       points = eqb→eq (a .points) (length (w .positions)) (ts .1 .1 .0);
       total = engine.agreed eqb eqb→eq (w .total) (a .length) (ts .1 .1 .1 .0);
-      list = eqbℤs→eq (written finest (pathOf w) (lent w)) (numbersOf w ++ unwritten 2) (ts .1 .1 .1 .1 .0);
+      list = eqbℤs→eq (written (pathOf w) (lent w)) (numbersOf w ++ unwritten 2) (ts .1 .1 .1 .1 .0);
       alike =
           λ i. record {
             refusal = eqb→eq (m .refusal) (a .refusal) (us .0) i;
@@ -192,10 +219,11 @@ all-listed : (ws : List Row) → T (every right ws) → All Holds (map draws ws)
 all-listed ws t = all-map Holds draws ws (tested Listed right right-listed ws t)
 
 pub starred : All Holds table
-unfolding table moving still widening everyCoordinate drawn written measured drawRefusal pathRefusal pointsRefusal isSegments isSize arePoints areChained areBeside isCoordinate
+unfolding table moving still widening finer everyCoordinate drawn written measured drawRefusal pathRefusal pointsRefusal isFinest reach isSegments isSize arePoints areChained areBeside isCoordinate
     areNeighbours isLevel areLimits entries following rest first control pointAt curve startRegisters turns turnsIn choose wantsHalve
     wantsDouble increment doubledIncrement isAligned turned turn shownBy entry pixel flat lengthOf lengthFrom moveLength
 starred =
-    all-append Holds (map draws moving) (map calls engine.table ++ (map draws still ++ map draws widening)) (all-listed moving tt)
-    (all-append Holds (map calls engine.table) (map draws still ++ map draws widening) (all-map Holds calls engine.table engine.starred)
-    (all-append Holds (map draws still) (map draws widening) (all-listed still tt) (all-listed widening tt)))
+    all-append Holds (map draws moving) (map calls engine.table ++ (map draws still ++ (map draws widening ++ map draws finer))) (all-listed moving tt)
+    (all-append Holds (map calls engine.table) (map draws still ++ (map draws widening ++ map draws finer)) (all-map Holds calls engine.table engine.starred)
+    (all-append Holds (map draws still) (map draws widening ++ map draws finer) (all-listed still tt)
+    (all-append Holds (map draws widening) (map draws finer) (all-listed widening tt) (all-listed finer tt))))
