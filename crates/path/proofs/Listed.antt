@@ -2,9 +2,13 @@
 use mathlib.Core.Path.{_≡_, refl, sym, ap, _∙_, subst}
 use mathlib.Core.List.{_∷_}
 use Prim.Native.Nat.{ℕ, zero, suc, _+_, _*_, _^_, _≤_, _<_}
-use native.Mathlib.Nat.{add-zero, zero-add, le-trans, mul-le-mul-left, not-suc-le-zero, le-of-suc-le-suc}
+use native.Mathlib.Nat.{add-zero, zero-add, le-trans, mul-le-mul, mul-le-mul-left, not-suc-le-zero, le-of-suc-le-suc}
 use native.Mathlib.Omega.{arith}
+use lib.IntN.{ℤ, pos}
 use lib.ListN.{length, length-append}
+use lib.Pow.{pow-mono}
+use lib.Signed.{_≤ℤ_}
+use Rattle.numbers.proofs.Order.{pos-le}
 use Rattle.numbers.specs.Tables.{All}
 use Rattle.numbers.proofs.Tables.{all-append, all-weaker}
 use Rattle.engine.specs.declared.Drawing.{Drawing}
@@ -12,10 +16,11 @@ use Rattle.entries.specs.declared.Entry.{Entry}
 use Rattle.entries.specs.Entries.{Among, Linked, lastOf}
 use Rattle.entries.specs.Length.{lengthOf}
 use Rattle.entries.proofs.Length.{length-most}
+use Rattle.entries.proofs.Numbers.{length-flat}
 use Rattle.entries.proofs.Along.{last-append, linked-append, among-head, among-joined}
 use Rattle.path.specs.Path.{Path, pathRefusal, first}
 use Rattle.path.specs.Entries.{entry, rest, following, entries}
-use Rattle.path.specs.Listed.{corner, Follows, Placed, Listed, InNumbers}
+use Rattle.path.specs.Listed.{corner, Follows, Placed, Listed, Most, InNumbers}
 use Rattle.path.proofs.Accepted.{accepted-lawful}
 use Rattle.path.proofs.Segments.{Sound, sound, held-first}
 use Rattle.path.proofs.Spans.{entry-first, span-last, span-linked, span-count, placed-at, span-placed}
@@ -117,6 +122,20 @@ listed p e =
       steps = following-steps p good e;
       count = omega arith;
       total = le-trans (length-most _ es) (mul-le-mul-left 1414 count);
+    }
+
+-- 64 segments of 4,096 positions are the most
+pub at-most : (p : Path) → pathRefusal p ≡ 0 → Most p
+at-most p e =
+    let l = listed p e in
+    let w = accepted-lawful p e in
+    let end : 2 ^ p .finest ≤ 4096 = pow-mono {j = 12} (w .finest-most) in
+    let whole : 2 ^ p .finest * p .segments ≤ 262144 = mul-le-mul end (w .most) in
+    record {
+      positions = all-weaker (λ e n. subst (λ (z : ℤ). z ≤ℤ pos 262144) (sym (n .position)) (pos-le (le-trans (n .inside) whole))) (entries p) (l .near);
+      points = omega (arith, l .count);
+      numbers = rw length-flat (omega (arith, l .count));
+      total = omega (arith, l .total);
     }
 
 pub in-numbers : (p : Path) → p .finest ≡ 11 → pathRefusal p ≡ 0 → InNumbers p

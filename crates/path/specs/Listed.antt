@@ -4,7 +4,7 @@ use mathlib.Core.List.{List, _∷_, map}
 use Prim.Native.Nat.{ℕ, _+_, _*_, _^_, _≤_, _<_}
 use lib.IntN.{ℤ, pos, natAbs, _-ℤ_, _*ℤ_}
 use lib.ListN.{length}
-use lib.Signed.{_<ℤ_}
+use lib.Signed.{_≤ℤ_, _<ℤ_}
 use Rattle.numbers.specs.Tables.{All}
 use Rattle.rules.specs.Rules.{degree}
 use Rattle.coordinate.specs.declared.Control.{Control}
@@ -16,7 +16,7 @@ use Rattle.engine.specs.Start.{started}
 use Rattle.distance.specs.Calls.{after, travelled}
 use Rattle.distance.specs.Demand3.{Demand3}
 use Rattle.entries.specs.declared.Entry.{Entry}
-use Rattle.entries.specs.Entries.{Among, Linked, lastOf}
+use Rattle.entries.specs.Entries.{flat, Among, Linked, lastOf}
 use Rattle.entries.specs.Length.{lengthOf}
 use Rattle.path.specs.Path.{Path, pointAt, place, controls, courses}
 use Rattle.path.specs.Entries.{entry, entries}
@@ -82,6 +82,14 @@ pub record Listed (p : Path) : Type 0 where
   -- at most 2^F points a segment after the start, each at most 1,414 away
   pub count : length (entries p) ≤ 2 ^ p .finest * p .segments + 1
   pub total : lengthOf (entries p) ≤ 1414 * (2 ^ p .finest * p .segments)
+
+-- ---- whatever the finest level: at most 64 segments of 4,096 positions, so that the list's numbers and its length fit 32 bits
+
+pub record Most (p : Path) : Type 0 where
+  pub positions : All (λ e. e .position ≤ℤ pos 262144) (entries p)
+  pub points : length (entries p) ≤ 262145
+  pub numbers : length (flat (entries p)) ≤ 1048580
+  pub total : lengthOf (entries p) ≤ 370671616
 
 -- ---- at F = 11, in the document's own numbers
 
