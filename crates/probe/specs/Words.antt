@@ -1,14 +1,16 @@
--- What stands in a request: words in its bytes, and in its words unsigned numbers, control points and drawings.
+-- What stands in a request: words in its bytes, and in its words unsigned numbers, control points, drawings, shapes and limits.
 use mathlib.Core.List.{List}
 use Prim.Native.Nat.{ℕ, _+_, _*_}
 use lib.IntN.{ℤ, pos}
 use lib.ListN.{getD}
 use mir.Syntax.{w32}
 use mir.Val.{ofZ}
+use Rattle.rules.specs.declared.Limits.{Limits}
 use Rattle.rules.specs.Rules.{coordinates}
 use Rattle.coordinate.specs.declared.Control.{Control}
 use Rattle.coordinate.specs.declared.Registers.{Registers}
 use Rattle.engine.specs.declared.Drawing.{Drawing}
+use Rattle.path.specs.declared.Shape.{Shape}
 
 abbrev pub wordAt : List ℕ → ℕ → ℕ
 wordAt bytes at =
@@ -39,13 +41,21 @@ registersAt words at =
       d = signedAt words (at + 3);
     }
 
--- level q, then a b c d of x, of y, of the width
+-- finest level q, then a b c d of x, of y, of the width
 abbrev pub drawingIn : List ℤ → Drawing
 drawingIn words =
     record {
-      level = unsignedAt words 0;
-      q = unsignedAt words 1;
-      x = registersAt words 2;
-      y = registersAt words 6;
-      width = registersAt words 10;
+      finest = unsignedAt words 0;
+      level = unsignedAt words 1;
+      q = unsignedAt words 2;
+      x = registersAt words 3;
+      y = registersAt words 7;
+      width = registersAt words 11;
     }
+
+-- segments finest level, and upper lower
+abbrev pub shapeIn : List ℤ → Shape
+shapeIn words = record { segments = unsignedAt words 0; finest = unsignedAt words 1; level = unsignedAt words 2 }
+
+abbrev pub limitsAt : List ℤ → ℕ → Limits
+limitsAt words at = record { upper = unsignedAt words at; lower = unsignedAt words (at + 1) }

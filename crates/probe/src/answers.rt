@@ -5,6 +5,8 @@ use crate::input::control_of;
 use crate::input::drawing_of;
 use crate::input::fill_bytes;
 use crate::input::fill_numbers;
+use crate::input::limits_at;
+use crate::input::shape_of;
 use crate::input::take_bytes;
 use crate::input::unsigned_at;
 use crate::output::end_line;
@@ -23,7 +25,12 @@ use rules::DEGREE;
 // The numbers of a segment's control points, and of a drawing.
 const CONTROLS: usize = COORDINATES * (DEGREE + 1);
 
-const DRAWING: usize = 2 + 4 * COORDINATES;
+const DRAWING: usize = 3 + 4 * COORDINATES;
+
+// And of a path's shape, and of limits.
+const SHAPE: usize = 3;
+
+const LIMITS: usize = 2;
 
 // The most places that a request asks for.
 const MOST_ROOM: usize = 16384;
@@ -51,14 +58,15 @@ pub(crate) fn answer(
 }
 
 fn answer_start(words: &[i32], text: &mut [u8]) -> bool {
-    if words.len() != CONTROLS + 1 {
+    if words.len() != CONTROLS + 2 {
         return false;
     }
     let x = control_of(words, 0);
     let y = control_of(words, 1);
     let width = control_of(words, 2);
-    let level = unsigned_at(words, CONTROLS);
-    put_moved(text, Drawing::start(x, y, width, level));
+    let finest = unsigned_at(words, CONTROLS);
+    let level = unsigned_at(words, CONTROLS + 1);
+    put_moved(text, Drawing::start(x, y, width, finest, level));
     true
 }
 
@@ -81,12 +89,11 @@ fn operate(code: u32, d: Drawing) -> Moved {
 }
 
 fn answer_next(words: &[i32], text: &mut [u8]) -> bool {
-    if words.len() != DRAWING + 2 {
+    if words.len() != DRAWING + LIMITS {
         return false;
     }
-    let upper = unsigned_at(words, DRAWING);
-    let lower = unsigned_at(words, DRAWING + 1);
-    put_next(text, drawing_of(words).next(upper, lower));
+    let limits = limits_at(words, DRAWING);
+    put_next(text, drawing_of(words).next(limits));
     true
 }
 
@@ -107,28 +114,25 @@ fn answer_shown(words: &[i32], text: &mut [u8]) -> bool {
 }
 
 fn answer_measure(words: &[i32], text: &mut [u8]) -> bool {
-    if words.len() < 4 {
+    if words.len() < SHAPE + LIMITS {
         return false;
     }
-    let segments = unsigned_at(words, 0);
-    let level = unsigned_at(words, 1);
-    let upper = unsigned_at(words, 2);
-    let lower = unsigned_at(words, 3);
+    let shape = shape_of(words);
+    let limits = limits_at(words, SHAPE);
     let at = put_drawn(
         text,
-        drawer::measure(&words[4..], segments, level, upper, lower),
+        drawer::measure(&words[SHAPE + LIMITS..], shape, limits),
     );
     end_line(text, at);
     true
 }
 
 fn answer_measure_standard(words: &[i32], text: &mut [u8]) -> bool {
-    if words.len() < 2 {
+    if words.len() < SHAPE {
         return false;
     }
-    let segments = unsigned_at(words, 0);
-    let level = unsigned_at(words, 1);
-    let at = put_drawn(text, drawer::measure_standard(&words[2..], segments, level));
+    let shape = shape_of(words);
+    let at = put_drawn(text, drawer::measure_standard(&words[SHAPE..], shape));
     end_line(text, at);
     true
 }
@@ -162,33 +166,27 @@ fn answer_in_room(
 }
 
 fn answer_draw(words: &[i32], list: &mut [i32], text: &mut [u8]) -> bool {
-    if words.len() < 4 {
+    if words.len() < SHAPE + LIMITS {
         return false;
     }
-    let segments = unsigned_at(words, 0);
-    let level = unsigned_at(words, 1);
-    let upper = unsigned_at(words, 2);
-    let lower = unsigned_at(words, 3);
+    let shape = shape_of(words);
+    let limits = limits_at(words, SHAPE);
     fill_numbers(list);
     let at = put_drawn(
         text,
-        drawer::draw(&words[4..], segments, level, upper, lower, list),
+        drawer::draw(&words[SHAPE + LIMITS..], shape, limits, list),
     );
     put_numbers(text, at, list);
     true
 }
 
 fn answer_draw_standard(words: &[i32], list: &mut [i32], text: &mut [u8]) -> bool {
-    if words.len() < 2 {
+    if words.len() < SHAPE {
         return false;
     }
-    let segments = unsigned_at(words, 0);
-    let level = unsigned_at(words, 1);
+    let shape = shape_of(words);
     fill_numbers(list);
-    let at = put_drawn(
-        text,
-        drawer::draw_standard(&words[2..], segments, level, list),
-    );
+    let at = put_drawn(text, drawer::draw_standard(&words[SHAPE..], shape, list));
     put_numbers(text, at, list);
     true
 }

@@ -3,12 +3,14 @@ ghost use mathlib.Core.Path.{_≡_};
 ghost use Prim.Native.Nat.{_+_, _*_, _%_, _≤_, _<_};
 ghost use lib.ListN.{length};
 ghost use Rattle.rules.specs.Rules.{degree, coordinates};
-ghost use Rattle.probe.specs.Words.{wordAt, unsignedAt, controlAt, registersAt, drawingIn};
+ghost use Rattle.probe.specs.Words.{wordAt, unsignedAt, controlAt, registersAt, drawingIn, shapeIn, limitsAt};
 use coordinate::Control;
 use coordinate::Registers;
 use engine::Drawing;
 use libc::STDIN_FILENO;
+use path::Shape;
 use rules::COORDINATES;
+use rules::Limits;
 
 // Fills `words` from standard input, by way of `bytes`; false where the input ends before.
 pub(crate) fn take_words(bytes: &mut [u8], words: &mut [i32]) -> bool
@@ -56,17 +58,18 @@ pub(crate) fn control_of(words: &[i32], at: usize) -> Control
     }
 }
 
-// level q, then a b c d of x, of y, of the width.
+// finest level q, then a b c d of x, of y, of the width.
 pub(crate) fn drawing_of(words: &[i32]) -> Drawing
-    requires { ⌜ 14 ≤ length (now words) ⌝ }
+    requires { ⌜ 15 ≤ length (now words) ⌝ }
     ensures { λ r. ⌜ r ≡ drawingIn (now (words .entry)) ⌝ }
 {
     Drawing {
-        level: unsigned_at(words, 0),
-        q: unsigned_at(words, 1),
-        x: registers_of(words, 2),
-        y: registers_of(words, 6),
-        width: registers_of(words, 10),
+        finest: unsigned_at(words, 0),
+        level: unsigned_at(words, 1),
+        q: unsigned_at(words, 2),
+        x: registers_of(words, 3),
+        y: registers_of(words, 7),
+        width: registers_of(words, 11),
     }
 }
 
@@ -79,6 +82,29 @@ fn registers_of(words: &[i32], at: usize) -> Registers
         b: words[at + 1],
         c: words[at + 2],
         d: words[at + 3],
+    }
+}
+
+// segments finest level.
+pub(crate) fn shape_of(words: &[i32]) -> Shape
+    requires { ⌜ 3 ≤ length (now words) ⌝ }
+    ensures { λ r. ⌜ r ≡ shapeIn (now (words .entry)) ⌝ }
+{
+    Shape {
+        segments: unsigned_at(words, 0),
+        finest: unsigned_at(words, 1),
+        level: unsigned_at(words, 2),
+    }
+}
+
+// upper lower.
+pub(crate) fn limits_at(words: &[i32], at: usize) -> Limits
+    requires { ⌜ at + 1 < length (now words) ⌝ }
+    ensures { λ r. ⌜ r ≡ limitsAt (now (words .entry)) at ⌝ }
+{
+    Limits {
+        upper: unsigned_at(words, at),
+        lower: unsigned_at(words, at + 1),
     }
 }
 

@@ -2,20 +2,20 @@
 // count K, and K arguments. Each is answered by a line of decimal numbers, or by "bad request": an unknown code, another K than the code's,
 // K over 16,400, room over 16,384, or a request that the input's end cuts off.
 //
-//     1 start                       COORDINATES of 4 points, level                 refusal DRAWING
-//     2 halve, 3 double, 4 step     DRAWING                                        refusal DRAWING
-//     5 next                        DRAWING upper lower                            refusal operation (0 halve, 1 double, 2 step)
-//     6 shown                       DRAWING                                        x y width
-//     7 draw                        room segments level upper lower COORDINATES    refusal points length LIST
-//     8 measure                     segments level upper lower COORDINATES         refusal points length
-//     9 read                        room BYTES                                     refusal count LIST
-//     10 write                      room NUMBERS                                   refusal count LIST
-//     11 draw_standard              room segments level COORDINATES                as 7
-//     12 measure_standard           segments level COORDINATES                     as 8
-//     13 next_standard              DRAWING                                        as 5
+//     1 start                       COORDINATES of 4 points, finest, level                refusal DRAWING
+//     2 halve, 3 double, 4 step     DRAWING                                               refusal DRAWING
+//     5 next                        DRAWING upper lower                                   refusal operation (0 halve, 1 double, 2 step)
+//     6 shown                       DRAWING                                               x y width
+//     7 draw                        room segments finest level upper lower COORDINATES    refusal points length LIST
+//     8 measure                     segments finest level upper lower COORDINATES         refusal points length
+//     9 read                        room BYTES                                            refusal count LIST
+//     10 write                      room NUMBERS                                          refusal count LIST
+//     11 draw_standard              room segments finest level COORDINATES                as 7
+//     12 measure_standard           segments finest level COORDINATES                     as 8
+//     13 next_standard              DRAWING                                               as 5
 //
-// DRAWING is the fourteen numbers level q, then a b c d of x, of y, of the width. COORDINATES come point by point, x y width. BYTES has a byte a
-// word, in its low eight bits. LIST is the `room` places that are lent, which hold -7, or 7 for bytes, before the call.
+// DRAWING is the fifteen numbers finest level q, then a b c d of x, of y, of the width. COORDINATES come point by point, x y width. BYTES has a
+// byte a word, in its low eight bits. LIST is the `room` places that are lent, which hold -7, or 7 for bytes, before the call.
 mod answers;
 mod input;
 mod output;

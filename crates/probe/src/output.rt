@@ -21,6 +21,7 @@ pub(crate) fn refuse() {
 pub(crate) fn put_moved(text: &mut [u8], moved: Moved) {
     let d = moved.drawing;
     let mut at = put_refusal(text, moved.refusal);
+    at = put_unsigned(text, at, d.finest);
     at = put_unsigned(text, at, d.level);
     at = put_unsigned(text, at, d.q);
     at = put_registers(text, at, d.x);
