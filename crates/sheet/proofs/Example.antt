@@ -6,6 +6,7 @@ use Prim.Native.Nat.{ℕ, suc, _+_, _<_}
 use native.Mathlib.Omega.{arith}
 use lib.IntN.{ℤ, pos, negsuc}
 use Rattle.rules.specs.Rules.{
+  reach,
   isCoordinate,
   areNeighbours,
   isLevel,
@@ -78,8 +79,8 @@ Stored s b l = (sheetBytes s ≡ b) × (sheetRefusal b ≡ 0) × (sheetNumbers (
 
 sheets : Stored pathA documentBytes documentNumbers × Stored lane laneBytes laneNumbers
 unfolding sheetBytes offsets records recordBytes valueBytes sheetAt recordsAt recordAt valuesAt sheetNumbers pathNumbers sheetRefusal
-    recordsRefusal recordRefusal bodyRefusal isOffset pathRules headRefusal pointsRefusal areLimits isSegments isLevel arePoints isCoordinate
-    areChained areBeside areNeighbours
+    recordsRefusal recordRefusal bodyRefusal isOffset pathRules headRefusal pointsRefusal areLimits isSegments isLevel reach arePoints
+    isCoordinate areChained areBeside areNeighbours
 sheets = ((refl, refl, refl), (refl, refl, refl))
 
 pub document-sheet : Stored pathA documentBytes documentNumbers

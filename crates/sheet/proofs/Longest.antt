@@ -7,7 +7,7 @@ use lib.IntN.{pos}
 use lib.ListN.{length, replicate}
 use Rattle.numbers.specs.Tables.{All}
 use Rattle.numbers.proofs.Tables.{all-append}
-use Rattle.rules.specs.Rules.{isCoordinate, areNeighbours, isLevel, areLimits, isSegments, isSize, pointNumbers, arePoints, areBeside, areChained}
+use Rattle.rules.specs.Rules.{reach, isCoordinate, areNeighbours, isLevel, areLimits, isSegments, isSize, pointNumbers, arePoints, areBeside, areChained}
 use Rattle.sheet.specs.Sheet.{Target, Sheet, sheetBytes, pathNumbers, RightPath, Right}
 use Rattle.sheet.specs.Reading.{sheetRefusal}
 use Rattle.sheet.proofs.Sheets.{length-bytes}
@@ -25,7 +25,7 @@ all-still zero S r = tt
 all-still (suc n) S r = (r, all-still n S r)
 
 still-right : RightPath (still 39) × RightPath (still 38)
-unfolding isSize isSegments isLevel arePoints isCoordinate areChained areBeside areNeighbours
+unfolding isSize isSegments isLevel reach arePoints isCoordinate areChained areBeside areNeighbours
 still-right = (record { size = refl; level = refl; points = refl; chained = refl }, record { size = refl; level = refl; points = refl; chained = refl })
 
 longest-size : length (sheetBytes longest) ≡ 32768

@@ -12,7 +12,7 @@ use Rattle.numbers.specs.Tables.{All}
 use Rattle.numbers.proofs.Tables.{all-weaker}
 use Rattle.numbers.proofs.Tests.{and-true}
 use Rattle.rules.specs.Rules.{
-  finest,
+  sheetFinest,
   reach,
   isCoordinate,
   areNeighbours,
@@ -29,7 +29,7 @@ use Rattle.rules.specs.Rules.{
 }
 use Rattle.rules.proofs.Refusals.{first-kept}
 use Rattle.sheet.specs.Bytes.{valueBytes, valuesAt}
-use Rattle.sheet.specs.Sheet.{Target, Sheet, mostBytes, recordBytes, records, offsets, sheetBytes, RightPath, Right}
+use Rattle.sheet.specs.Sheet.{Target, Sheet, mostBytes, recordBytes, records, offsets, sheetBytes, sheetReach, RightPath, Right}
 use Rattle.sheet.specs.Records.{recordAt, recordEnd}
 use Rattle.sheet.specs.PathRules.{pathRules}
 use Rattle.sheet.specs.Reading.{isOffset, bodyRefusal, recordRefusal, recordsRefusal, sheetRefusal, readRefusal}
@@ -86,7 +86,7 @@ old-form-not-read s room r some e = old-form-refused s r some (room-accepted (sh
 
 -- the last record, where it has fewer numbers than its segments say
 record-cut : (b : List ℕ) (q : Target) (k p : ℕ) → length b ≤ mostBytes → Stands b (q ∷ []) k p → isSegments (q .segments) ≡ true
-    → isLevel finest (q .level) ≡ true → length (q .points) < pointNumbers (q .segments) → recordRefusal b k p ≡ 15
+    → isLevel sheetFinest (q .level) ≡ true → length (q .points) < pointNumbers (q .segments) → recordRefusal b k p ≡ 15
 unfolding recordAt
 record-cut b q k p h s segments level short =
     let S = segments-back b q [] k p s segments in
@@ -134,11 +134,11 @@ unfolding withWidths placeNumbers arePoints isCoordinate
 same-points [] = refl
 same-points (p ∷ ps) = ap (λ (b : Bool). isCoordinate (p .x) && (isCoordinate (p .y) && b)) (same-points ps)
 
-same-chained : (ps : List Place) → areChained reach (withWidths ps) ≡ areBeside reach (placeNumbers ps) (drop 2 (placeNumbers ps))
-unfolding withWidths placeNumbers areChained areBeside areNeighbours
+same-chained : (ps : List Place) → areChained sheetReach (withWidths ps) ≡ areBeside sheetReach (placeNumbers ps) (drop 2 (placeNumbers ps))
+unfolding withWidths placeNumbers reach areChained areBeside areNeighbours
 same-chained [] = refl
 same-chained (p ∷ []) = refl
-same-chained (p ∷ q ∷ ps) = ap (λ (b : Bool). areNeighbours reach (p .x) (q .x) && (areNeighbours reach (p .y) (q .y) && b)) (same-chained (q ∷ ps))
+same-chained (p ∷ q ∷ ps) = ap (λ (b : Bool). areNeighbours sheetReach (p .x) (q .x) && (areNeighbours sheetReach (p .y) (q .y) && b)) (same-chained (q ∷ ps))
 
 pub old-right-with-widths : (p : OldPath) → (OldRightPath p → RightPath (newTarget p)) × (RightPath (newTarget p) → OldRightPath p)
 unfolding newTarget isSize
@@ -195,8 +195,8 @@ oldPathA = record { upper = 65536; lower = 32768; paths = pathA ∷ [] }
 
 pub old-document-sheet : OldRight oldPathA × (oldBytes oldPathA ≡ oldDocumentBytes) × (sheetRefusal oldDocumentBytes ≡ 15)
 unfolding oldParts oldTarget placeNumbers sheetBytes offsets records recordBytes valueBytes sheetRefusal recordsRefusal recordRefusal bodyRefusal
-    isOffset pathRules headRefusal pointsRefusal areLimits isSegments isLevel arePoints isCoordinate areChained areBeside areNeighbours recordAt
-    valuesAt
+    isOffset pathRules headRefusal pointsRefusal areLimits isSegments isLevel reach arePoints isCoordinate areChained areBeside areNeighbours
+    recordAt valuesAt
 old-document-sheet =
     let size : OldSize pathA = record { segments = refl; numbers = refl } in
     let path : OldRightPath pathA = record { size = size; level = refl; points = refl; chained = refl } in

@@ -7,35 +7,35 @@ use borrow.Author.Tests.{le-leb, lt-leb, eq-eqb}
 use lib.Dec.{leb, eqb}
 use lib.ListN.{length}
 use Rattle.numbers.proofs.Tests.{and-true}
-use Rattle.rules.specs.Rules.{finest, reach, isLevel, isSegments, pointNumbers, isSize, headRefusal, arePoints, areChained, pointsRefusal}
+use Rattle.rules.specs.Rules.{sheetFinest, isLevel, isSegments, pointNumbers, isSize, headRefusal, arePoints, areChained, pointsRefusal}
 use Rattle.rules.proofs.Refusals.{rule-kept, first-kept, first-stop}
 use Rattle.rules.proofs.Order.{head-refuses-14, head-refuses-3, head-accepted, head-kept, points-accepted, points-kept}
-use Rattle.sheet.specs.Sheet.{Target, RightPath}
+use Rattle.sheet.specs.Sheet.{Target, sheetReach, RightPath}
 use Rattle.sheet.specs.PathRules.{pathRules}
 
 pub record Kept (there whole : Bool) (p : Target) : Type 0 where
   pub begins : there ≡ true
   pub segments : isSegments (p .segments) ≡ true
-  pub level : isLevel finest (p .level) ≡ true
+  pub level : isLevel sheetFinest (p .level) ≡ true
   pub ends : whole ≡ true
   pub points : arePoints (p .points) ≡ true
-  pub chained : areChained reach (p .points) ≡ true
+  pub chained : areChained sheetReach (p .points) ≡ true
 
 pub rules-kept : (short : ℕ) (begins ends : Bool) (p : Target) → pathRules (suc short) begins ends p ≡ 0 → Kept begins ends p
 unfolding pathRules
 rules-kept short begins ends p e =
     let there = rule-kept begins short _ e in
-    let rest = first-kept (headRefusal finest (p .segments) (p .level)) _ (there .1) in
+    let rest = first-kept (headRefusal sheetFinest (p .segments) (p .level)) _ (there .1) in
     let whole = rule-kept ends short _ (rest .1) in
-    let head = head-kept finest (p .segments) (p .level) (rest .0) in
-    let points = points-kept reach (p .points) (whole .1) in
+    let head = head-kept sheetFinest (p .segments) (p .level) (rest .0) in
+    let points = points-kept sheetReach (p .points) (whole .1) in
     record { begins = there .0; segments = head .0; level = head .1; ends = whole .0; points = points .0; chained = points .1 }
 
 pub kept-rules : (short : ℕ) {begins ends : Bool} {p : Target} → Kept begins ends p → pathRules (suc short) begins ends p ≡ 0
 unfolding pathRules
 kept-rules short {p = p} k =
-    rw (k .begins, head-accepted finest (p .segments) (p .level) (k .segments) (k .level), k .ends)
-    (points-accepted reach (p .points) (k .points) (k .chained))
+    rw (k .begins, head-accepted sheetFinest (p .segments) (p .level) (k .segments) (k .level), k .ends)
+    (points-accepted sheetReach (p .points) (k .points) (k .chained))
 
 -- ---- a right path keeps them, and one with all its points that keeps them is right
 
@@ -57,20 +57,20 @@ module _ (short : ℕ) (begins ends : Bool) (p : Target) where
   refuses-no-head e = rw e
 
   module _ (there : begins ≡ true) where
-    pub refuses-by-head : (headRefusal finest (p .segments) (p .level) ≡ 0 → ⊥)
-        → pathRules short begins ends p ≡ headRefusal finest (p .segments) (p .level)
+    pub refuses-by-head : (headRefusal sheetFinest (p .segments) (p .level) ≡ 0 → ⊥)
+        → pathRules short begins ends p ≡ headRefusal sheetFinest (p .segments) (p .level)
     unfolding pathRules
-    refuses-by-head h = rw there (first-stop (headRefusal finest (p .segments) (p .level)) _ h)
+    refuses-by-head h = rw there (first-stop (headRefusal sheetFinest (p .segments) (p .level)) _ h)
 
-    refuses-by-number : {k : ℕ} → headRefusal finest (p .segments) (p .level) ≡ suc k → pathRules short begins ends p ≡ suc k
+    refuses-by-number : {k : ℕ} → headRefusal sheetFinest (p .segments) (p .level) ≡ suc k → pathRules short begins ends p ≡ suc k
     refuses-by-number e = refuses-by-head (λ z. omega (arith, e)) ∙ e
 
-    module _ (head : headRefusal finest (p .segments) (p .level) ≡ 0) where
+    module _ (head : headRefusal sheetFinest (p .segments) (p .level) ≡ 0) where
       pub refuses-cut : ends ≡ false → pathRules short begins ends p ≡ short
       unfolding pathRules
       refuses-cut e = rw (there, head, e)
 
-      pub refuses-by-points : ends ≡ true → pathRules short begins ends p ≡ pointsRefusal reach (p .points)
+      pub refuses-by-points : ends ≡ true → pathRules short begins ends p ≡ pointsRefusal sheetReach (p .points)
       unfolding pathRules
       refuses-by-points e = rw (there, head, e)
 
@@ -79,10 +79,10 @@ module _ (short : ℕ) (begins ends : Bool) (p : Target) where
 pub record PathOrder (refusal short head end size : ℕ) (p : Target) : Type 0 where
   pub no-head : size < head → refusal ≡ short
   pub no-segments : head ≤ size → isSegments (p .segments) ≡ false → refusal ≡ 14
-  pub no-level : head ≤ size → isSegments (p .segments) ≡ true → isLevel finest (p .level) ≡ false → refusal ≡ 3
-  pub cut : head ≤ size → isSegments (p .segments) ≡ true → isLevel finest (p .level) ≡ true → size < end → refusal ≡ short
-  pub by-points : head ≤ size → isSegments (p .segments) ≡ true → isLevel finest (p .level) ≡ true → end ≤ size
-      → refusal ≡ pointsRefusal reach (p .points)
+  pub no-level : head ≤ size → isSegments (p .segments) ≡ true → isLevel sheetFinest (p .level) ≡ false → refusal ≡ 3
+  pub cut : head ≤ size → isSegments (p .segments) ≡ true → isLevel sheetFinest (p .level) ≡ true → size < end → refusal ≡ short
+  pub by-points : head ≤ size → isSegments (p .segments) ≡ true → isLevel sheetFinest (p .level) ≡ true → end ≤ size
+      → refusal ≡ pointsRefusal sheetReach (p .points)
 
 pub rules-in-order : (short head end size : ℕ) (p : Target) → PathOrder (pathRules short (leb head size) (leb end size) p) short head end size p
 rules-in-order short head end size p =
@@ -90,8 +90,8 @@ rules-in-order short head end size p =
     let n = p .level in
     record {
       no-head = λ h. refuses-no-head short _ _ p (lt-leb head size h);
-      no-segments = λ h s. refuses-by-number short _ _ p (le-leb head size h) (head-refuses-14 finest S n s);
-      no-level = λ h s l. refuses-by-number short _ _ p (le-leb head size h) (head-refuses-3 finest S n s l);
-      cut = λ h s l e. refuses-cut short _ _ p (le-leb head size h) (head-accepted finest S n s l) (lt-leb end size e);
-      by-points = λ h s l e. refuses-by-points short _ _ p (le-leb head size h) (head-accepted finest S n s l) (le-leb end size e);
+      no-segments = λ h s. refuses-by-number short _ _ p (le-leb head size h) (head-refuses-14 sheetFinest S n s);
+      no-level = λ h s l. refuses-by-number short _ _ p (le-leb head size h) (head-refuses-3 sheetFinest S n s l);
+      cut = λ h s l e. refuses-cut short _ _ p (le-leb head size h) (head-accepted sheetFinest S n s l) (lt-leb end size e);
+      by-points = λ h s l e. refuses-by-points short _ _ p (le-leb head size h) (head-accepted sheetFinest S n s l) (le-leb end size e);
     }

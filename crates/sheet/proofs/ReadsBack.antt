@@ -7,7 +7,7 @@ use native.Mathlib.Omega.{arith}
 use borrow.Author.Tests.{le-leb, eq-eqb}
 use lib.ListN.{length, length-append}
 use Rattle.numbers.specs.Tables.{All}
-use Rattle.rules.specs.Rules.{finest, isLevel, areLimits, isSegments}
+use Rattle.rules.specs.Rules.{sheetFinest, isLevel, areLimits, isSegments}
 use Rattle.rules.proofs.Refusals.{first-on}
 use Rattle.rules.proofs.Laws.{limits-hold, Sized, size-holds}
 use Rattle.sheet.specs.Bytes.{le16, le32, valueBytes, u16At, u32At, valuesAt}
@@ -65,7 +65,7 @@ module _ (b : List ℕ) (q : Target) (ps : List Target) (k p : ℕ) (s : Stands 
       u16-at b (s .front) (le16 (q .segments) ++ rest) p (s .body) (s .start)
       ∙ u16-back (q .segments) rest (bits-small (segments-short (q .segments) h))
 
-  pub level-back : isLevel finest (q .level) ≡ true → u16At b (p + 2) ≡ q .level
+  pub level-back : isLevel sheetFinest (q .level) ≡ true → u16At b (p + 2) ≡ q .level
   unfolding records recordBytes
   level-back h =
       let front = le16 (q .segments) in

@@ -11,7 +11,7 @@ use lib.ListN.{length, length-append}
 use Rattle.numbers.proofs.Tests.{and-true}
 use Rattle.numbers.specs.Tables.{All}
 use Rattle.numbers.proofs.Tables.{all-append}
-use Rattle.rules.specs.Rules.{finest, isCoordinate, isLevel, arePoints, mostSegments, isSegments}
+use Rattle.rules.specs.Rules.{sheetFinest, isCoordinate, isLevel, arePoints, mostSegments, isSegments}
 use Rattle.rules.proofs.Laws.{coordinate-size, size-holds}
 use Rattle.sheet.specs.Bytes.{Short, up, down, le16, bits16, valueBytes}
 use Rattle.sheet.specs.Sheet.{Target, Sheet, headSize, recordBytes, records, offsets, sheetBytes, pathNumbers, sheetNumbers, RightPath, Right}
@@ -74,9 +74,9 @@ pub segments-short : (n : ℕ) → isSegments n ≡ true → Short (pos n)
 unfolding isSegments
 segments-short n e = up {n = n} (omega (arith, leb-true n mostSegments (and-true (leb 1 n) (leb n mostSegments) e .1)))
 
-pub level-short : (n : ℕ) → isLevel finest n ≡ true → Short (pos n)
+pub level-short : (n : ℕ) → isLevel sheetFinest n ≡ true → Short (pos n)
 unfolding isLevel
-level-short n e = up {n = n} (omega (arith, leb-true n finest e))
+level-short n e = up {n = n} (omega (arith, leb-true n sheetFinest e))
 
 pub right-short : (ps : List Target) → All RightPath ps → All Short (pathNumbers ps)
 unfolding pathNumbers

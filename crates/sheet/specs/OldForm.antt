@@ -7,8 +7,8 @@ use Prim.Native.Nat.{ℕ, _+_, _*_, _≤_}
 use lib.IntN.{ℤ, pos}
 use lib.ListN.{length, drop}
 use Rattle.numbers.specs.Tables.{All}
-use Rattle.rules.specs.Rules.{finest, reach, isLevel, areLimits, isSegments, arePoints, areBeside}
-use Rattle.sheet.specs.Sheet.{Target, Sheet, sheetBytes}
+use Rattle.rules.specs.Rules.{sheetFinest, isLevel, areLimits, isSegments, arePoints, areBeside}
+use Rattle.sheet.specs.Sheet.{Target, Sheet, sheetBytes, sheetReach}
 
 pub record Place : Type 0 where
   pub x : ℤ
@@ -62,9 +62,9 @@ pub record OldSize (p : OldPath) : Type 0 where
 -- every rule of a path but for the limits: 14, 3, 1 over all points, and 2 between x and x, y and y
 pub record OldRightPath (p : OldPath) : Type 0 where
   pub size : OldSize p
-  pub level : isLevel finest (p .level) ≡ true
+  pub level : isLevel sheetFinest (p .level) ≡ true
   pub points : arePoints (placeNumbers (p .points)) ≡ true
-  pub chained : areBeside reach (placeNumbers (p .points)) (drop 2 (placeNumbers (p .points))) ≡ true
+  pub chained : areBeside sheetReach (placeNumbers (p .points)) (drop 2 (placeNumbers (p .points))) ≡ true
 
 pub record OldRight (s : OldSheet) : Type 0 where
   pub few : length (s .paths) ≤ 1024

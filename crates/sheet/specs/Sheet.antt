@@ -6,7 +6,7 @@ use Prim.Native.Nat.{ℕ, _+_, _*_, _/_, _≤_}
 use lib.IntN.{ℤ, pos}
 use lib.ListN.{length}
 use Rattle.numbers.specs.Tables.{All}
-use Rattle.rules.specs.Rules.{finest, reach, isLevel, areLimits, isSize, arePoints, areChained}
+use Rattle.rules.specs.Rules.{sheetFinest, reach, isLevel, areLimits, isSize, arePoints, areChained}
 use Rattle.sheet.specs.Bytes.{valueSize, le16, le32, valueBytes}
 
 -- one path of a sheet; points: x0, y0, width0, x1, y1, width1, ..
@@ -72,12 +72,16 @@ sheetNumbers s = pos (length (s .paths)) ∷ pos (s .upper) ∷ pos (s .lower) �
 
 -- ---- right sheets
 
+-- how far apart neighbours may be at the finest level of a sheet's paths
+abbrev pub sheetReach : ℕ
+sheetReach = reach sheetFinest
+
 -- every rule of a path but for the limits, which are the sheet's
 pub record RightPath (p : Target) : Type 0 where
   pub size : isSize (p .segments) (length (p .points)) ≡ true
-  pub level : isLevel finest (p .level) ≡ true
+  pub level : isLevel sheetFinest (p .level) ≡ true
   pub points : arePoints (p .points) ≡ true
-  pub chained : areChained reach (p .points) ≡ true
+  pub chained : areChained sheetReach (p .points) ≡ true
 
 pub record Right (s : Sheet) : Type 0 where
   pub few : length (s .paths) ≤ 1024
