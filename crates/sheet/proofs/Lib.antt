@@ -1,6 +1,7 @@
 pub mod Bytes
 pub mod Sheets
 pub mod PathRules
+pub mod InNumbers
 pub mod Reading
 pub mod ReadsBack
 pub mod ReadsOnly
