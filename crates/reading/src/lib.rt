@@ -8,6 +8,8 @@ ghost use Rattle.sheet.specs.Sheet.{mostBytes, mostPaths, headSize, sheetNumber
 ghost use Rattle.sheet.specs.Records.{sheetAt};
 ghost use Rattle.sheet.specs.Reading.{bodyRefusal, recordRefusal, recordsRefusal, sheetRefusal};
 ghost use Rattle.sheet.specs.Answer.{refusedBy, readAnswer, numbersRead};
+use rules::Limits;
+use rules::SHEET_FINEST;
 use sheet::LEAST_BYTES;
 use sheet::LIST_HEAD;
 use sheet::MOST_BYTES;
@@ -65,7 +67,11 @@ fn sheet_refusal(sheet: &[u8]) -> u32
     if sheet.len() < head_size(paths) {
         return 12;
     }
-    if !rules::limits(u32_at(sheet, 4), u32_at(sheet, 8)) {
+    let limits = Limits {
+        upper: u32_at(sheet, 4),
+        lower: u32_at(sheet, 8),
+    };
+    if !limits.lawful() {
         return 4;
     }
     records_refusal(sheet, paths)
@@ -111,7 +117,7 @@ fn body_refusal(sheet: &[u8], at: usize) -> u32
         return 15;
     }
     let segments = u16_at(sheet, at);
-    let refusal = rules::head_refusal(segments, u16_at(sheet, at + VALUE_SIZE));
+    let refusal = rules::head_refusal(SHEET_FINEST, segments, u16_at(sheet, at + VALUE_SIZE));
     if refusal != 0 {
         return refusal;
     }
@@ -121,7 +127,7 @@ fn body_refusal(sheet: &[u8], at: usize) -> u32
     }
     let mut points = [0i32; rules::MOST_POINT_NUMBERS];
     take_values(sheet, at + RECORD_HEAD, n, &mut points, 0);
-    rules::points_refusal(&points[..n])
+    rules::points_refusal(rules::reach(SHEET_FINEST), &points[..n])
 }
 
 // ---- the number list of an accepted sheet

@@ -9,6 +9,8 @@ ghost use Rattle.sheet.specs.Sheet.{leastBytes, mostBytes, listHead, headSize, 
 ghost use Rattle.sheet.specs.NumberList.{numberAt, pathsAt, sheetOf};
 ghost use Rattle.sheet.specs.Writing.{pathRefusal, pathsRefusal, Parted, listRefusal};
 ghost use Rattle.sheet.specs.Answer.{refusedBy, writeAnswer, bytesWritten};
+use rules::Limits;
+use rules::SHEET_FINEST;
 use sheet::LEAST_BYTES;
 use sheet::LIST_HEAD;
 use sheet::MOST_BYTES;
@@ -61,7 +63,11 @@ fn list_refusal(numbers: &[i32]) -> u32
     if MOST_PATHS < paths {
         return 12;
     }
-    if !rules::limits(number_at(numbers, 1), number_at(numbers, 2)) {
+    let limits = Limits {
+        upper: number_at(numbers, 1),
+        lower: number_at(numbers, 2),
+    };
+    if !limits.lawful() {
         return 4;
     }
     let refusal = paths_refusal(numbers, paths);
@@ -103,7 +109,7 @@ fn path_refusal(numbers: &[i32], at: usize) -> u32
         return 17;
     }
     let segments = number_at(numbers, at);
-    let refusal = rules::head_refusal(segments, number_at(numbers, at + 1));
+    let refusal = rules::head_refusal(SHEET_FINEST, segments, number_at(numbers, at + 1));
     if refusal != 0 {
         return refusal;
     }
@@ -111,7 +117,7 @@ fn path_refusal(numbers: &[i32], at: usize) -> u32
     if numbers.len() < end {
         return 17;
     }
-    rules::points_refusal(&numbers[at + PATH_HEAD..end])
+    rules::points_refusal(rules::reach(SHEET_FINEST), &numbers[at + PATH_HEAD..end])
 }
 
 // ---- the bytes of an accepted number list

@@ -12,7 +12,7 @@ use lib.ListN.{length, take}
 use lib.Seq.{sets, take-at, length-take-le}
 use Rattle.numbers.proofs.Tests.{and-true}
 use Rattle.numbers.proofs.Buffers.{sets-front}
-use Rattle.rules.specs.Rules.{finest, reach, mostSegments, isSegments, pointNumbers, headRefusal, pointsRefusal}
+use Rattle.rules.specs.Rules.{sheetFinest, mostSegments, isSegments, pointNumbers, headRefusal, pointsRefusal}
 use Rattle.rules.proofs.Order.{head-kept}
 use Rattle.sheet.specs.Bytes.{valueSize, u16At, valuesAt}
 use Rattle.sheet.specs.Sheet.{recordHead}
@@ -49,9 +49,9 @@ begins c = le-leb _ _ (c .if1 .left)
 
 head-asked : (c : tie.After-head-refusal)
     → let a = c .before .before .before .before .before .args in
-    c .head-refusal .result ≡ headRefusal finest (u16At (a .sheet .now) (a .at)) (u16At (a .sheet .now) (a .at + valueSize))
+    c .head-refusal .result ≡ headRefusal sheetFinest (u16At (a .sheet .now) (a .at)) (u16At (a .sheet .now) (a .at + valueSize))
 head-asked c =
-    c .head-refusal .ensures ∙ ap₂ (headRefusal finest) (c .before .before .u16-at .ensures .0) (c .before .u16-at2 .ensures .0)
+    c .head-refusal .ensures ∙ ap₂ (headRefusal sheetFinest) (c .before .before .u16-at .ensures .0) (c .before .u16-at2 .ensures .0)
 
 returns-2 : tie.Need-returns-2
 unfolding bodyRefusal recordAt
@@ -61,7 +61,7 @@ returns-2 c =
 
 head : (c : tie.Else2)
     → let a = c .before .before .before .before .before .before .args in
-    headRefusal finest (u16At (a .sheet .now) (a .at)) (u16At (a .sheet .now) (a .at + valueSize)) ≡ 0
+    headRefusal sheetFinest (u16At (a .sheet .now) (a .at)) (u16At (a .sheet .now) (a .at + valueSize)) ≡ 0
 head c = sym (head-asked (c .before)) ∙ c .if2 .left
 
 -- ---- how many numbers the points have
@@ -96,7 +96,7 @@ unfolding isSegments
 few n e = omega (arith, leb-true n mostSegments (and-true (leb 1 n) (leb n mostSegments) e .1))
 
 few-numbers : (c : tie.Else3) → c .before .point-numbers .result ≤ pointNumbers mostSegments
-few-numbers c = rw (count (c .before)) (few _ (head-kept finest _ _ (head (c .before .before)) .0))
+few-numbers c = rw (count (c .before)) (few _ (head-kept sheetFinest _ _ (head (c .before .before)) .0))
 
 -- ---- the points
 
@@ -109,8 +109,11 @@ slice-aggregate-take-values c = search needs
 take-values-requires : tie.Need-take-values-requires
 take-values-requires c κs = (c .before .if3 .left, omega (arith, few-numbers (c .before)))
 
+reach-requires : tie.Need-reach-requires
+reach-requires c κs = search needs
+
 array-share-prefix-points : tie.Need-array-share-prefix-points
-array-share-prefix-points c = omega (arith, few-numbers (c .before .before .before), c .before .take-values .kept)
+array-share-prefix-points c = omega (arith, few-numbers (c .before .before .before .before), c .before .before .take-values .kept)
 
 slice-aggregate-points-refusal : tie.Need-slice-aggregate-points-refusal
 slice-aggregate-points-refusal c = sym (length-take-le _ _ (array-share-prefix-points (c .before)))
@@ -136,11 +139,12 @@ points c =
 returns-4 : tie.Need-returns-4
 unfolding bodyRefusal recordAt
 returns-4 c =
-    let g = c .before .before .before .before .before in
+    let r = c .before .before in
+    let g = r .before .before .before .before in
     let e = g .before .before in
     let ends = le-leb _ _ (rw (count (g .before)) at (g .if3 .left)) in
     c .points-refusal .ensures
-    ∙ ap (pointsRefusal reach) (points (c .before .before .before))
+    ∙ ap₂ pointsRefusal (r .reach .ensures) (points (r .before .before))
     ∙ sym (refuses-by-points 15 _ _ _ (begins (e .before .before .before .before)) (head e) ends)
 
 pub body-refusal-spec : {M : Type 1} → statement M
@@ -162,6 +166,7 @@ body-refusal-spec =
     add-take-values
     slice-aggregate-take-values
     take-values-requires
+    reach-requires
     array-share-prefix-points
     slice-aggregate-points-refusal
     points-refusal-requires

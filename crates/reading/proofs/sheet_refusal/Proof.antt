@@ -64,13 +64,13 @@ u32-at-requires-2 c κs = search needs
 u32-at-requires-3 : tie.Need-u32-at-requires-3
 u32-at-requires-3 c κs = search needs
 
-limits-requires : tie.Need-limits-requires
-limits-requires c κs = search needs
+lawful-requires : tie.Need-lawful-requires
+lawful-requires c κs = search needs
 
-limits-asked : (c : tie.After-limits)
+limits-asked : (c : tie.After-lawful)
     → let b = c .before .before .before .before .before .before .before .before .before .before .args .sheet .now in
-    areLimits (u32At b 4) (u32At b 8) ≡ c .limits .result
-limits-asked c = ap₂ areLimits (sym (c .before .before .u32-at2 .ensures)) (sym (c .before .u32-at3 .ensures)) ∙ sym (c .limits .ensures)
+    areLimits (u32At b 4) (u32At b 8) ≡ c .lawful .result
+limits-asked c = ap₂ areLimits (sym (c .before .before .u32-at2 .ensures)) (sym (c .before .u32-at3 .ensures)) ∙ sym (c .lawful .ensures)
 
 returns-5 : tie.Need-returns-5
 unfolding sheetRefusal
@@ -106,7 +106,7 @@ sheet-refusal-spec =
     returns-4
     u32-at-requires-2
     u32-at-requires-3
-    limits-requires
+    lawful-requires
     returns-5
     records-refusal-requires
     returns-6)
