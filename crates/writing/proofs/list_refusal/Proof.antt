@@ -23,10 +23,10 @@ use Rattle.writing.proofs.list_refusal.Tie as tie
 abbrev list : tie.After-number-at → List ℤ
 list c = c .before .before .args .numbers .now
 
-abbrev from-limits : tie.After-limits → tie.Else2
+abbrev from-limits : tie.After-lawful → tie.Else2
 from-limits c = c .before .before .before
 
-abbrev from-paths : tie.After-paths-refusal → tie.After-limits
+abbrev from-paths : tie.After-paths-refusal → tie.After-lawful
 from-paths c = c .before .before
 
 abbrev from-bytes : tie.After-byte-count → tie.After-paths-refusal
@@ -59,11 +59,11 @@ number-at-requires-2 c κs = search needs
 number-at-requires-3 : tie.Need-number-at-requires-3
 number-at-requires-3 c κs = search needs
 
-limits-requires : tie.Need-limits-requires
-limits-requires c κs = search needs
+lawful-requires : tie.Need-lawful-requires
+lawful-requires c κs = search needs
 
-limits : (c : tie.After-limits) → let l = list (from-limits c .before) in c .limits .result ≡ areLimits (numberAt l 1) (numberAt l 2)
-limits c = c .limits .ensures ∙ ap₂ areLimits (c .before .before .number-at2 .ensures) (c .before .number-at3 .ensures)
+limits : (c : tie.After-lawful) → let l = list (from-limits c .before) in c .lawful .result ≡ areLimits (numberAt l 1) (numberAt l 2)
+limits c = c .lawful .ensures ∙ ap₂ areLimits (c .before .before .number-at2 .ensures) (c .before .number-at3 .ensures)
 
 returns-3 : tie.Need-returns-3
 unfolding listRefusal
@@ -127,7 +127,7 @@ list-refusal-spec =
     returns-2
     number-at-requires-2
     number-at-requires-3
-    limits-requires
+    lawful-requires
     returns-3
     paths-refusal-requires
     returns-4

@@ -1,5 +1,5 @@
 -- Each return is one line of the table `pathRules`, by the tests that led there.
-use mathlib.Core.Path.{_≡_, sym, ap, ap₂, _∙_}
+use mathlib.Core.Path.{_≡_, sym, ap₂, _∙_}
 use mathlib.Core.Bool.{true}
 use mathlib.Core.List.{List}
 use Prim.Native.Nat.{ℕ, _+_, _-_}
@@ -9,7 +9,7 @@ use borrow.Author.Tests.{le-leb, lt-leb}
 use lib.Dec.{leb}
 use lib.IntN.{ℤ}
 use lib.ListN.{length, take, drop}
-use Rattle.rules.specs.Rules.{finest, reach, pointNumbers, headRefusal, pointsRefusal}
+use Rattle.rules.specs.Rules.{sheetFinest, pointNumbers, headRefusal, pointsRefusal}
 use Rattle.sheet.specs.Sheet.{pathHead}
 use Rattle.sheet.specs.NumberList.{numberAt, pathAt, pathEnd}
 use Rattle.sheet.specs.Writing.{pathRefusal}
@@ -52,8 +52,8 @@ from-head c = c .before .before .before
 
 head-asked : (c : tie.After-head-refusal)
     → let d = from-head c in
-    c .head-refusal .result ≡ headRefusal finest (numberAt (list d) (index d)) (numberAt (list d) (index d + 1))
-head-asked c = c .head-refusal .ensures ∙ ap₂ (headRefusal finest) (c .before .before .number-at .ensures) (c .before .number-at2 .ensures)
+    c .head-refusal .result ≡ headRefusal sheetFinest (numberAt (list d) (index d)) (numberAt (list d) (index d + 1))
+head-asked c = c .head-refusal .ensures ∙ ap₂ (headRefusal sheetFinest) (c .before .before .number-at .ensures) (c .before .number-at2 .ensures)
 
 returns-2 : tie.Need-returns-2
 unfolding pathRefusal pathAt
@@ -62,7 +62,7 @@ returns-2 c =
     asked ∙ sym (refuses-by-head 17 _ _ _ (begins (from-head (c .before))) (λ z. c .if2 .taken (asked ∙ z)))
 
 head : (c : tie.Else2)
-    → let d = from-head (c .before) in headRefusal finest (numberAt (list d) (index d)) (numberAt (list d) (index d + 1)) ≡ 0
+    → let d = from-head (c .before) in headRefusal sheetFinest (numberAt (list d) (index d)) (numberAt (list d) (index d + 1)) ≡ 0
 head c = sym (head-asked (c .before)) ∙ c .if2 .left
 
 -- ---- where the path ends
@@ -92,6 +92,9 @@ returns-3 c =
 
 -- ---- the points
 
+reach-requires : tie.Need-reach-requires
+reach-requires c κs = search needs
+
 add-points-refusal : tie.Need-add-points-refusal
 add-points-refusal c = search needs
 
@@ -113,12 +116,13 @@ points-refusal-requires c κs = search needs
 returns-4 : tie.Need-returns-4
 unfolding pathRefusal pathAt
 returns-4 c =
-    let e = c .before .before .before in
+    let r = c .before .before in
+    let e = r .before .before in
     let d = from-end e in
-    let whole = le-leb (pathEnd (list d) (index d)) (length (list d)) (omega (arith, end e, c .before .before .if3 .left)) in
+    let whole = le-leb (pathEnd (list d) (index d)) (length (list d)) (omega (arith, end e, r .before .if3 .left)) in
     let n : index d + pathHead + e .point-numbers .result - (index d + pathHead) ≡ pointNumbers (numberAt (list d) (index d)) = omega (arith, end e) in
     c .points-refusal .ensures
-    ∙ ap (λ (k : ℕ). pointsRefusal reach (take k (drop (index d + pathHead) (list d)))) n
+    ∙ ap₂ (λ (W k : ℕ). pointsRefusal W (take k (drop (index d + pathHead) (list d)))) (r .reach .ensures) n
     ∙ sym (refuses-by-points 17 _ _ (pathAt (list d) (index d)) (begins d) (head (e .before)) whole)
 
 pub path-refusal-spec : {M : Type 1} → statement M
@@ -136,6 +140,7 @@ path-refusal-spec =
     point-numbers-requires
     add-end-2
     returns-3
+    reach-requires
     add-points-refusal
     mul-points-refusal
     sub-points-refusal
