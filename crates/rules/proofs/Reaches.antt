@@ -35,5 +35,5 @@ reach-fine F h =
 pub reach-finer : (F : ℕ) → 11 < F → reach F ≡ mostReach
 unfolding reach
 reach-finer F h =
-    let many : 2048 ≤ 2 ^ F = pow-mono {i = 11} (omega arith) in
+    let many : 4096 ≤ 2 ^ F = pow-mono {i = 12} h in
     min-eq-left (omega arith)

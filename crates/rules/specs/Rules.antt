@@ -1,4 +1,4 @@
--- What document 01 accepts, by its refusal numbers 1 to 4, 14 and 24.
+-- What the documents accept, by their refusal numbers 1 to 4, 14 and 24.
 use mathlib.Core.Bool.{Bool, true, _&&_}
 use mathlib.Core.List.{List, [], _∷_}
 use Prim.Native.Nat.{ℕ, _+_, _-_, _*_, _/_, _^_, min}
