@@ -7,7 +7,7 @@ use Prim.Native.Nat.{ℕ, _+_, _*_, _≤_, _<_}
 use native.Mathlib.Omega.{arith}
 use lib.IntN.{pos}
 use lib.ListN.{length, drop}
-use borrow.Author.Tests.{eqb-true, eq-eqb}
+use borrow.Author.Tests.{leb-true, eqb-true, eq-eqb}
 use Rattle.numbers.specs.Tables.{All}
 use Rattle.numbers.proofs.Tables.{all-weaker}
 use Rattle.numbers.proofs.Tests.{and-true}
@@ -87,13 +87,13 @@ old-form-not-read s room r some e = old-form-refused s r some (room-accepted (sh
 -- the last record, where it has fewer numbers than its segments say
 record-cut : (b : List ℕ) (q : Target) (k p : ℕ) → length b ≤ mostBytes → Stands b (q ∷ []) k p → isSegments (q .segments) ≡ true
     → isLevel sheetFinest (q .level) ≡ true → length (q .points) < pointNumbers (q .segments) → recordRefusal b k p ≡ 15
-unfolding recordAt
+unfolding recordAt isLevel
 record-cut b q k p h s segments level short =
     let S = segments-back b q [] k p s segments in
     let n = level-back b q [] k p s level in
     let end = stands-end b (k + 1) (p + length (recordBytes q)) (next-stands b q [] k p s) in
     record-refuses-by-body b k p (offset-back b q [] k p s h)
-    ∙ record-order b p .cut (omega (arith, end, length-record q)) (rw S segments) (rw n level) (omega (arith, end, length-record q, S))
+    ∙ record-order b p .cut (omega (arith, end, length-record q)) (rw S segments) (omega (arith, n, leb-true (q .level) 11 level)) (omega (arith, end, length-record q, S))
 
 pub one-path-refused-15 : (upper lower : ℕ) (p : OldPath) → let s : OldSheet = record { upper = upper; lower = lower; paths = p ∷ [] } in
     OldRight s → sheetRefusal (oldBytes s) ≡ 15

@@ -7,7 +7,7 @@ use borrow.Author.Tests.{le-leb, lt-leb, eq-eqb}
 use lib.Dec.{leb, eqb}
 use lib.ListN.{length}
 use Rattle.numbers.proofs.Tests.{and-true}
-use Rattle.rules.specs.Rules.{sheetFinest, isLevel, isSegments, pointNumbers, isSize, headRefusal, arePoints, areChained, pointsRefusal}
+use Rattle.rules.specs.Rules.{sheetFinest, reach, isLevel, isSegments, pointNumbers, isSize, headRefusal, arePoints, areChained, pointsRefusal}
 use Rattle.rules.proofs.Refusals.{rule-kept, first-kept, first-stop}
 use Rattle.rules.proofs.Order.{head-refuses-14, head-refuses-3, head-accepted, head-kept, points-accepted, points-kept}
 use Rattle.sheet.specs.Sheet.{Target, sheetReach, RightPath}
@@ -79,19 +79,19 @@ module _ (short : ℕ) (begins ends : Bool) (p : Target) where
 pub record PathOrder (refusal short head end size : ℕ) (p : Target) : Type 0 where
   pub no-head : size < head → refusal ≡ short
   pub no-segments : head ≤ size → isSegments (p .segments) ≡ false → refusal ≡ 14
-  pub no-level : head ≤ size → isSegments (p .segments) ≡ true → isLevel sheetFinest (p .level) ≡ false → refusal ≡ 3
-  pub cut : head ≤ size → isSegments (p .segments) ≡ true → isLevel sheetFinest (p .level) ≡ true → size < end → refusal ≡ short
-  pub by-points : head ≤ size → isSegments (p .segments) ≡ true → isLevel sheetFinest (p .level) ≡ true → end ≤ size
-      → refusal ≡ pointsRefusal sheetReach (p .points)
+  pub no-level : head ≤ size → isSegments (p .segments) ≡ true → 11 < p .level → refusal ≡ 3
+  pub cut : head ≤ size → isSegments (p .segments) ≡ true → p .level ≤ 11 → size < end → refusal ≡ short
+  pub by-points : head ≤ size → isSegments (p .segments) ≡ true → p .level ≤ 11 → end ≤ size → refusal ≡ pointsRefusal 682 (p .points)
 
 pub rules-in-order : (short head end size : ℕ) (p : Target) → PathOrder (pathRules short (leb head size) (leb end size) p) short head end size p
+unfolding isLevel reach
 rules-in-order short head end size p =
     let S = p .segments in
     let n = p .level in
     record {
       no-head = λ h. refuses-no-head short _ _ p (lt-leb head size h);
       no-segments = λ h s. refuses-by-number short _ _ p (le-leb head size h) (head-refuses-14 sheetFinest S n s);
-      no-level = λ h s l. refuses-by-number short _ _ p (le-leb head size h) (head-refuses-3 sheetFinest S n s l);
-      cut = λ h s l e. refuses-cut short _ _ p (le-leb head size h) (head-accepted sheetFinest S n s l) (lt-leb end size e);
-      by-points = λ h s l e. refuses-by-points short _ _ p (le-leb head size h) (head-accepted sheetFinest S n s l) (le-leb end size e);
+      no-level = λ h s l. refuses-by-number short _ _ p (le-leb head size h) (head-refuses-3 sheetFinest S n s (lt-leb n 11 l));
+      cut = λ h s l e. refuses-cut short _ _ p (le-leb head size h) (head-accepted sheetFinest S n s (le-leb n 11 l)) (lt-leb end size e);
+      by-points = λ h s l e. refuses-by-points short _ _ p (le-leb head size h) (head-accepted sheetFinest S n s (le-leb n 11 l)) (le-leb end size e);
     }
