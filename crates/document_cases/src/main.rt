@@ -1,5 +1,5 @@
 // Runs the worked cases of document 01 through the public functions of the drawer and of the engine, and prints the numbers that the
-// document gives; and a case of order 8, in which the width alone moves.
+// document gives; a case of order 8, in which the width alone moves; and A at the finest levels 6 and 12 of order 9.
 use coordinate::Control;
 use coordinate::Registers;
 use engine::Drawing;
@@ -7,12 +7,14 @@ use engine::Moved;
 use entries::Entry;
 use entries::Found;
 use path::Drawn;
+use path::Shape;
+use rules::Limits;
 
 const OUT: i32 = 1;
 
 fn main() {
-    totals(b"A", listing(b"A", curve(0, 1, 2, 3), 0));
-    listing(b"B", curve(3, 2, 1, 0), 0);
+    totals(b"A", listing(b"A", curve(0, 1, 2, 3), 11, 0));
+    listing(b"B", curve(3, 2, 1, 0), 11, 0);
     operations(curve(0, 0, 0, 8));
     steep(b"G", 1, 7);
     steep(b"H", -1, 4);
@@ -22,12 +24,14 @@ fn main() {
     verdict(b"J", start(flat(0), 12).refusal);
     verdict(b"J", start(flat(16383), 0).refusal);
     verdict(b"J", start(flat(16384), 0).refusal);
-    listing(b"K", flat(5), 5);
-    listing(b"L", curve(0, 0, 0, 8), 0);
+    listing(b"K", flat(5), 11, 5);
+    listing(b"L", curve(0, 0, 0, 8), 11, 0);
     let m = start(curve(0, 0, 0, 8), 1).drawing.step();
     position(b"M", m.drawing.q);
     verdict(b"M", m.drawing.double().refusal);
     lane(b"order 8", curve(0, 682, 1364, 2046));
+    listing(b"order 9", curve(0, 1, 2, 3), 6, 0);
+    listing(b"order 9", curve(0, 1, 2, 3), 12, 0);
 }
 
 // ---- the curves: x as given, y and the width 0 throughout
@@ -50,7 +54,7 @@ fn kink(p: i32) -> Control {
 }
 
 fn start(x: Control, level: u32) -> Moved {
-    Drawing::start(x, flat(0), flat(0), level)
+    Drawing::start(x, flat(0), flat(0), 11, level)
 }
 
 // Cases C to F.
@@ -75,10 +79,10 @@ fn steep(name: &[u8], p: i32, given: u32) {
     registers(name, m.drawing.step().drawing.x, 14);
 }
 
-// Cases A, B, K and L: a path of one segment, drawn; its positions and its x.
-fn listing(name: &[u8], x: Control, level: u32) -> Drawn {
+// Cases A, B, K and L, and A at other finest levels: a path of one segment, drawn; its positions and its x.
+fn listing(name: &[u8], x: Control, finest: u32, level: u32) -> Drawn {
     let mut list = [0i32; 64];
-    let drawn = draw(x, flat(0), level, &mut list);
+    let drawn = draw(x, flat(0), finest, level, &mut list);
     column(name, b" positions", &list, drawn.points, 0);
     column(name, b" x", &list, drawn.points, 1);
     drawn
@@ -87,13 +91,13 @@ fn listing(name: &[u8], x: Control, level: u32) -> Drawn {
 // A width alone: its positions, its widths, and a length of 0.
 fn lane(name: &[u8], width: Control) {
     let mut list = [0i32; 64];
-    let drawn = draw(flat(0), width, 0, &mut list);
+    let drawn = draw(flat(0), width, 11, 0, &mut list);
     column(name, b" positions", &list, drawn.points, 0);
     column(name, b" width", &list, drawn.points, 3);
     totals(name, drawn);
 }
 
-fn draw(x: Control, width: Control, level: u32, list: &mut [i32]) -> Drawn {
+fn draw(x: Control, width: Control, finest: u32, level: u32, list: &mut [i32]) -> Drawn {
     let points = [
         x.p0,
         0,
@@ -108,7 +112,16 @@ fn draw(x: Control, width: Control, level: u32, list: &mut [i32]) -> Drawn {
         0,
         width.p3,
     ];
-    drawer::draw(&points, 1, level, 65536, 32768, list)
+    let shape = Shape {
+        segments: 1,
+        finest: finest,
+        level: level,
+    };
+    let limits = Limits {
+        upper: 65536,
+        lower: 32768,
+    };
+    drawer::draw(&points, shape, limits, list)
 }
 
 // ---- lines
