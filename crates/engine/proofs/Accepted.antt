@@ -46,6 +46,10 @@ pub start-begins : (F : ℕ) (p : Coordinate → Control) (n : ℕ) → startRef
 unfolding started
 start-begins F p n e = answers (refused nothingDrawn) _ e
 
+-- its finest level is the one that was asked for
+pub start-keeps-finest : (F : ℕ) (p : Coordinate → Control) (n : ℕ) → startRefusal F p n ≡ 0 → started F p n .drawing .finest ≡ F
+start-keeps-finest F p n e = ap (λ (m : Moved). m .drawing .finest) (start-begins F p n e)
+
 -- the point shown of it is the first control point, in each coordinate
 first-pixel : (n : ℕ) (p : Control) → pixel (startRegisters n (curve p)) ≡ p .p0
 unfolding startRegisters curve
