@@ -9,10 +9,10 @@ use lib.IntN.{ℤ}
 use lib.ListN.{length}
 use Rattle.numbers.specs.Tables.{All}
 use Rattle.rules.specs.Refusals.{Among}
-use Rattle.rules.specs.Rules.{sheetFinest, isLevel, areLimits, isSegments, headRefusal, arePoints, areChained, pointsRefusal}
+use Rattle.rules.specs.Rules.{isLevel, areLimits, isSegments, headRefusal, arePoints, areChained, pointsRefusal}
 use Rattle.rules.proofs.Refusals.{first-among, line-among, among, among-wider, untabled, filled-refused}
 use Rattle.sheet.specs.Bytes.{u32At}
-use Rattle.sheet.specs.Sheet.{Target, leastBytes, mostBytes, mostPaths, listHead, headSize, sheetBytes, sheetNumbers, sheetReach}
+use Rattle.sheet.specs.Sheet.{Target, leastBytes, mostBytes, mostPaths, listHead, headSize, sheetBytes, sheetNumbers}
 use Rattle.sheet.specs.Records.{recordEnd, sheetAt}
 use Rattle.sheet.specs.NumberList.{numberAt, pathEnd, sheetOf}
 use Rattle.sheet.specs.PathRules.{pathRules}
@@ -29,9 +29,9 @@ path-among : {short : ℕ} (begins ends : Bool) (p : Target) {table : List ℕ} 
 unfolding pathRules headRefusal pointsRefusal
 path-among begins ends p short segments level points chained none =
     line-among begins short
-    (first-among (headRefusal sheetFinest (p .segments) (p .level)) _
-    (line-among (isSegments (p .segments)) segments (line-among (isLevel sheetFinest (p .level)) level none))
-    (line-among ends short (line-among (arePoints (p .points)) points (line-among (areChained sheetReach (p .points)) chained none))))
+    (first-among (headRefusal _ (p .segments) (p .level)) _
+    (line-among (isSegments (p .segments)) segments (line-among (isLevel _ (p .level)) level none))
+    (line-among ends short (line-among (arePoints (p .points)) points (line-among (areChained _ (p .points)) chained none))))
 
 room-among : (k count room : ℕ) {table : List ℕ} → Among k table → Among 9 table → Among 0 table
     → Among (answered (roomRefusal k count room) count .refusal) table

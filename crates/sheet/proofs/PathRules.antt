@@ -25,17 +25,17 @@ pub rules-kept : (short : ℕ) (begins ends : Bool) (p : Target) → pathRules (
 unfolding pathRules
 rules-kept short begins ends p e =
     let there = rule-kept begins short _ e in
-    let rest = first-kept (headRefusal sheetFinest (p .segments) (p .level)) _ (there .1) in
+    let rest = first-kept (headRefusal _ (p .segments) (p .level)) _ (there .1) in
     let whole = rule-kept ends short _ (rest .1) in
-    let head = head-kept sheetFinest (p .segments) (p .level) (rest .0) in
-    let points = points-kept sheetReach (p .points) (whole .1) in
+    let head = head-kept _ (p .segments) (p .level) (rest .0) in
+    let points = points-kept _ (p .points) (whole .1) in
     record { begins = there .0; segments = head .0; level = head .1; ends = whole .0; points = points .0; chained = points .1 }
 
 pub kept-rules : (short : ℕ) {begins ends : Bool} {p : Target} → Kept begins ends p → pathRules (suc short) begins ends p ≡ 0
 unfolding pathRules
 kept-rules short {p = p} k =
-    rw (k .begins, head-accepted sheetFinest (p .segments) (p .level) (k .segments) (k .level), k .ends)
-    (points-accepted sheetReach (p .points) (k .points) (k .chained))
+    rw (k .begins, head-accepted _ (p .segments) (p .level) (k .segments) (k .level), k .ends)
+    (points-accepted _ (p .points) (k .points) (k .chained))
 
 -- ---- a right path keeps them, and one with all its points that keeps them is right
 
@@ -60,7 +60,7 @@ module _ (short : ℕ) (begins ends : Bool) (p : Target) where
     pub refuses-by-head : (headRefusal sheetFinest (p .segments) (p .level) ≡ 0 → ⊥)
         → pathRules short begins ends p ≡ headRefusal sheetFinest (p .segments) (p .level)
     unfolding pathRules
-    refuses-by-head h = rw there (first-stop (headRefusal sheetFinest (p .segments) (p .level)) _ h)
+    refuses-by-head h = rw there (first-stop (headRefusal _ (p .segments) (p .level)) _ h)
 
     refuses-by-number : {k : ℕ} → headRefusal sheetFinest (p .segments) (p .level) ≡ suc k → pathRules short begins ends p ≡ suc k
     refuses-by-number e = refuses-by-head (λ z. omega (arith, e)) ∙ e
@@ -90,8 +90,8 @@ rules-in-order short head end size p =
     let n = p .level in
     record {
       no-head = λ h. refuses-no-head short _ _ p (lt-leb head size h);
-      no-segments = λ h s. refuses-by-number short _ _ p (le-leb head size h) (head-refuses-14 sheetFinest S n s);
-      no-level = λ h s l. refuses-by-number short _ _ p (le-leb head size h) (head-refuses-3 sheetFinest S n s (lt-leb n 11 l));
-      cut = λ h s l e. refuses-cut short _ _ p (le-leb head size h) (head-accepted sheetFinest S n s (le-leb n 11 l)) (lt-leb end size e);
-      by-points = λ h s l e. refuses-by-points short _ _ p (le-leb head size h) (head-accepted sheetFinest S n s (le-leb n 11 l)) (le-leb end size e);
+      no-segments = λ h s. refuses-by-number short _ _ p (le-leb head size h) (head-refuses-14 _ S n s);
+      no-level = λ h s l. refuses-by-number short _ _ p (le-leb head size h) (head-refuses-3 _ S n s (lt-leb n 11 l));
+      cut = λ h s l e. refuses-cut short _ _ p (le-leb head size h) (head-accepted _ S n s (le-leb n 11 l)) (lt-leb end size e);
+      by-points = λ h s l e. refuses-by-points short _ _ p (le-leb head size h) (head-accepted _ S n s (le-leb n 11 l)) (le-leb end size e);
     }

@@ -76,7 +76,7 @@ segments-short n e = up {n = n} (omega (arith, leb-true n mostSegments (and-true
 
 pub level-short : (n : ℕ) → isLevel sheetFinest n ≡ true → Short (pos n)
 unfolding isLevel
-level-short n e = up {n = n} (omega (arith, leb-true n sheetFinest e))
+level-short n e = up {n = n} (omega (arith, leb-true n _ e))
 
 pub right-short : (ps : List Target) → All RightPath ps → All Short (pathNumbers ps)
 unfolding pathNumbers

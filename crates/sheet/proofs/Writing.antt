@@ -11,7 +11,7 @@ use lib.ListN.{length, getD, take, drop, length-drop, take-append-drop, drop-of-
 use lib.Seq.{length-take-le, drop-drop}
 use Rattle.numbers.specs.Tables.{All}
 use Rattle.rules.specs.Refusals.{firstOf}
-use Rattle.rules.specs.Rules.{sheetFinest, isLevel, areLimits, pointNumbers}
+use Rattle.rules.specs.Rules.{isLevel, areLimits, pointNumbers}
 use Rattle.rules.proofs.Refusals.{rule-kept, first-kept, first-on, first-stop}
 use Rattle.rules.proofs.Laws.{size-holds, accepted}
 use Rattle.sheet.specs.Bytes.{Short}
@@ -70,7 +70,7 @@ module _ (l : List ℤ) (i : ℕ) (e : pathRefusal l i ≡ 0) where
   unfolding pathAt isLevel
   path-numbers =
       let segments = accepted (getD l i (pos 0)) (omega (arith, size-holds _ _ (path-right .size) .most)) in
-      let level = accepted (getD l (i + 1) (pos 0)) (omega (arith, leb-true (numberAt l (i + 1)) sheetFinest (path-kept .level))) in
+      let level = accepted (getD l (i + 1) (pos 0)) (omega (arith, leb-true (numberAt l (i + 1)) _ (path-kept .level))) in
       let n = pointNumbers (numberAt l i) in
       let points = sym (take-append-drop n (drop (i + 2) l)) ∙ ap (λ (m : List ℤ). take n (drop (i + 2) l) ++ m) (drop-drop n (i + 2) l) in
       two-numbers l i (omega (arith, path-fits)) ∙ ap₂ _∷_ segments (ap₂ _∷_ level points)
