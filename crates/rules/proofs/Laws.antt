@@ -10,7 +10,7 @@ use borrow.Author.Tests.{leb-true, eqb-true, le-leb, eq-eqb}
 use Rattle.numbers.proofs.Order.{leZ-true, le-leZ}
 use Rattle.numbers.proofs.Size.{Size}
 use Rattle.numbers.proofs.Tests.{and-true, and-three}
-use Rattle.rules.specs.Rules.{isFinest, sheetFinest, isCoordinate, areNeighbours, areLimits, standardLimits, mostSegments, isSegments, pointNumbers, isSize, natural}
+use Rattle.rules.specs.Rules.{isFinest, sheetFinest, isCoordinate, areNeighbours, isLevel, areLimits, standardLimits, mostSegments, isSegments, pointNumbers, isSize, natural}
 
 pub coordinate-size : (p : ℤ) → isCoordinate p ≡ true → Size p 16384
 unfolding isCoordinate
@@ -47,6 +47,15 @@ holds-finest {F} f = ap₂ _&&_ (le-leb 6 F (f .least)) (le-leb F 12 (f .most))
 -- a sheet's paths keep 11
 pub sheet-finest : sheetFinest ≡ 11
 sheet-finest = refl
+
+-- a start level is from 0 to the finest
+pub level-holds : (F n : ℕ) → isLevel F n ≡ true → n ≤ F
+unfolding isLevel
+level-holds F n e = leb-true n F e
+
+pub holds-level : {F n : ℕ} → n ≤ F → isLevel F n ≡ true
+unfolding isLevel
+holds-level {F} {n} h = le-leb n F h
 
 -- ---- neighbours
 
