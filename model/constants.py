@@ -6,12 +6,12 @@ COORDINATES = "x", "y", "width"     # of a point, in their order
 POINT_NUMBERS = len(COORDINATES)
 ENTRY_NUMBERS = 1 + POINT_NUMBERS   # the position, and then the point
 LOWEST, HIGHEST = -16_384, 16_383   # a coordinate, the width too
-FARTHEST = 682                      # between neighbours, in each coordinate
+FARTHEST = 682                      # between neighbours, at any F
 
 # Drawings
 
-FINEST = 11                         # the finest level
-END = 2**FINEST                     # the last position of a segment
+LEAST_FINEST, MOST_FINEST = 6, 12   # the finest level F of a drawing
+SHEET_FINEST = 11                   # F of every path on a sheet
 LEAST, MOST = -2**31, 2**31 - 1     # a register: a signed 32-bit number
 ONE_UNIT = 65_536                   # registers and limits are in these parts
 STANDARD_LIMITS = ONE_UNIT, ONE_UNIT // 2

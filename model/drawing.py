@@ -1,24 +1,24 @@
 """The model's drawing: the exact curve, its registers and their operations.
 
-A drawing is a level, a position q, and the registers (a, b, c, d) of each
-coordinate: x, y and the width. Each operation hands a drawing back; a refused
-one hands back the drawing that it was given.
+A drawing is its finest level F, a level, a position q, and the registers
+(a, b, c, d) of each coordinate: x, y and the width. Each operation hands a
+drawing back; a refused one hands back the drawing that it was given.
 """
 from collections import namedtuple
 from fractions import Fraction
 from math import floor
 
-from model.constants import (COORDINATES, END, FINEST, LEAST, MOST, ONE_UNIT,
+from model.constants import (COORDINATES, LEAST, MOST, ONE_UNIT,
                              POINT_NUMBERS)
 from model.points import Point
-from model.rules import (demand, demand_level, demand_limits, demand_points,
-                         refusal_or)
+from model.rules import (demand, demand_finest, demand_level, demand_limits,
+                         demand_points, is_finest, is_level, refusal_or)
 
 HALVE, DOUBLE, STEP = 0, 1, 2       # the answers of choosing
 
-Drawing = namedtuple("Drawing", ("level", "q", *COORDINATES))
+Drawing = namedtuple("Drawing", ("finest", "level", "q", *COORDINATES))
 STILL = 0, 0, 0, 0                  # registers of a coordinate that stays at 0
-ZEROS = Drawing(0, 0, *[STILL] * POINT_NUMBERS)
+ZEROS = Drawing(0, 0, 0, *[STILL] * POINT_NUMBERS)
 
 
 def registers_of(drawing):
@@ -26,9 +26,14 @@ def registers_of(drawing):
     return drawing[-POINT_NUMBERS:]
 
 
-def step_size(level):
-    """What one step adds to q."""
-    return 2 ** (FINEST - level)
+def last_position(finest):
+    """The end of a segment: q counts 2^F-ths of the parameter."""
+    return 2**finest
+
+
+def step_size(finest, level):
+    """s, which one step adds to q."""
+    return 2 ** (finest - level)
 
 
 # The exact curve, and a start
@@ -58,22 +63,23 @@ def start_registers(points, level):
     return a, b, c, d
 
 
-def started(points, level):
+def started(points, finest, level):
     """The drawing of an accepted start."""
-    return Drawing(level, 0, *(start_registers(values, level)
-                               for values in zip(*points)))
+    return Drawing(finest, level, 0, *(start_registers(values, level)
+                                       for values in zip(*points)))
 
 
-def begun(points, level):
-    """1 over all points, 2, 3."""
-    demand_points(points)
-    demand_level(level)
-    return started(points, level)
+def begun(points, finest, level):
+    """24, 1 over all points, 2, 3."""
+    demand_finest(finest)
+    demand_points(points, finest)
+    demand_level(level, finest)
+    return started(points, finest, level)
 
 
-def start(points, level):
+def start(points, finest, level):
     """The refusal and the drawing."""
-    return refusal_or(ZEROS, begun, points, level)
+    return refusal_or(ZEROS, begun, points, finest, level)
 
 
 # The operations: new registers of one coordinate from its old ones
@@ -95,14 +101,16 @@ def double_registers(level, registers):
     return 2 * a, b + a, c + (b >> (level + 1)), d
 
 
-# The operations: 10 by level and q, 5, then 6 or 7 then 8, 10 by registers
+# The operations: 10 by F, level and q, 5, then 6 or 7 then 8, 10 by registers
 
 def demand_place(drawing):
-    """10 by level and q, then 5."""
-    level, q = drawing.level, drawing.q
-    demand(0 <= level <= FINEST, 10)
-    demand(0 <= q <= END and q % step_size(level) == 0, 10)
-    demand(q != END, 5)
+    """10 by F first, then by level and q; then 5."""
+    finest, level, q = drawing.finest, drawing.level, drawing.q
+    demand(is_finest(finest), 10)
+    demand(is_level(level, finest), 10)
+    end = last_position(finest)
+    demand(0 <= q <= end and q % step_size(finest, level) == 0, 10)
+    demand(q != end, 5)
 
 
 def demand_registers(drawing):
@@ -113,17 +121,18 @@ def demand_registers(drawing):
 
 def turned(turn, drawing, level, q):
     """The drawing there, its coordinates turned at the level they are at."""
-    return Drawing(level, q, *[turn(drawing.level, registers)
-                               for registers in registers_of(drawing)])
+    return Drawing(drawing.finest, level, q,
+                   *[turn(drawing.level, registers)
+                     for registers in registers_of(drawing)])
 
 
 def is_in_line(drawing):
     """Whether q is a multiple of 2s."""
-    return drawing.q % (2 * step_size(drawing.level)) == 0
+    return drawing.q % (2 * step_size(drawing.finest, drawing.level)) == 0
 
 
 def halved(drawing):
-    demand(drawing.level != FINEST, 6)
+    demand(drawing.level != drawing.finest, 6)
     return turned(halve_registers, drawing, drawing.level + 1, drawing.q)
 
 
@@ -135,7 +144,7 @@ def doubled(drawing):
 
 def stepped(drawing):
     return turned(step_registers, drawing, drawing.level,
-                  drawing.q + step_size(drawing.level))
+                  drawing.q + step_size(drawing.finest, drawing.level))
 
 
 OPERATIONS = {HALVE: halved, DOUBLE: doubled, STEP: stepped}
@@ -164,7 +173,7 @@ def shown(drawing):
     return Point._make(map(shown_coordinate, registers_of(drawing)))
 
 
-# Choosing the next operation: 4, 10 by level and q, 5. The width takes no part
+# Choosing the next operation, by x and y alone: 4, 10 by F, level and q, 5
 
 def increment(level, registers):
     c = registers[2]
@@ -189,7 +198,7 @@ def may_double(drawing, upper, lower):
 
 def chosen(drawing, upper, lower):
     """The operation by the three rules, in their order."""
-    if largest_increment(drawing) > upper and drawing.level < FINEST:
+    if largest_increment(drawing) > upper and drawing.level < drawing.finest:
         return HALVE
     if may_double(drawing, upper, lower):
         return DOUBLE

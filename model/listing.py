@@ -1,4 +1,5 @@
 """The model's listing: the text that the listing program prints of a sheet."""
+from model.constants import SHEET_FINEST
 from model.path import length, path_entries
 from model.rules import refusal_or
 from model.sheet import read_paths
@@ -13,7 +14,8 @@ def path_lines(index, entries):
 def sheet_lines(upper, lower, paths):
     yield f"paths {len(paths)}"
     for index, (level, points) in enumerate(paths):
-        yield from path_lines(index, path_entries(points, level, upper, lower))
+        entries = path_entries(points, SHEET_FINEST, level, upper, lower)
+        yield from path_lines(index, entries)
 
 
 def listing(data):

@@ -1,36 +1,39 @@
 """The model's paths: the point list of a path, and its length."""
 from collections import namedtuple
 
-from model.constants import COORDINATES, DEGREE, END, ENTRY_NUMBERS
-from model.drawing import STEP, chosen, operate, shown, started
+from model.constants import COORDINATES, DEGREE, ENTRY_NUMBERS
+from model.drawing import (STEP, chosen, last_position, operate, shown,
+                           started)
 from model.points import flat, numbers_in, points_of, segments_of
-from model.rules import (demand, demand_level, demand_limits, demand_points,
-                         demand_segments, refusal_or)
+from model.rules import (demand, demand_finest, demand_level, demand_limits,
+                         demand_points, demand_segments, refusal_or)
 
 Entry = namedtuple("Entry", ("position", *COORDINATES))
 
 
 # Entries of an accepted path
 
-def segment_entries(k, points, level, upper, lower):
+def segment_entries(k, points, finest, level, upper, lower):
     """Segment k: its start, and the point after each step."""
-    drawing = started(points, level)
-    entries = [Entry(END * k, *shown(drawing))]
-    while drawing.q != END:
+    drawing = started(points, finest, level)
+    end = last_position(finest)
+    entries = [Entry(end * k, *shown(drawing))]
+    while drawing.q != end:
         operation = chosen(drawing, upper, lower)
         refusal, drawing = operate(operation, drawing)
         assert refusal == 0, "the chosen operation is never refused"
         if operation == STEP:
-            entries.append(Entry(END * k + drawing.q, *shown(drawing)))
+            entries.append(Entry(end * k + drawing.q, *shown(drawing)))
     return entries
 
 
-def path_entries(points, level, upper, lower):
+def path_entries(points, finest, level, upper, lower):
     """The whole list: a join stands once, as the end of the earlier one."""
     entries = [Entry(0, *points[0])]
     for k in range(segments_of(points)):
         part = points[DEGREE * k:DEGREE * (k + 1) + 1]
-        start, *others = segment_entries(k, part, level, upper, lower)
+        start, *others = segment_entries(k, part, finest, level, upper,
+                                         lower)
         assert start == entries[-1], "the join is one entry"
         entries += others
     return entries
@@ -46,18 +49,23 @@ def length(entries):
     return total
 
 
-# Refusals: 14, 1, 2, 3, 4, and 9 where there is a list
+# Refusals: 14, 24, 1, 2, 3, 4, and 9 where there is a list
 
-def accepted_entries(segments, level, limits, numbers):
-    """The list of a path that may be refused. 14, 1, 2, 3, 4."""
-    upper, lower = limits
+def accepted_points(segments, finest, level, limits, numbers):
+    """The points of a path that may be refused. 14, 24, 1, 2, 3, 4."""
     demand_segments(segments)
     demand(len(numbers) == numbers_in(segments), 14)
+    demand_finest(finest)
     points = points_of(numbers)
-    demand_points(points)
-    demand_level(level)
-    demand_limits(upper, lower)
-    return path_entries(points, level, upper, lower)
+    demand_points(points, finest)
+    demand_level(level, finest)
+    demand_limits(*limits)
+    return points
+
+
+def accepted_entries(segments, finest, level, limits, numbers):
+    points = accepted_points(segments, finest, level, limits, numbers)
+    return path_entries(points, finest, level, *limits)
 
 
 def fitting_entries(room, *path):
@@ -66,19 +74,19 @@ def fitting_entries(room, *path):
     return entries
 
 
-def draw(room, segments, level, limits, numbers):
+def draw(room, segments, finest, level, limits, numbers):
     """The refusal, the number of points, the length, and the numbers written.
 
     room is the length of the lent list, limits are (upper, lower), and
     numbers are those of the control points.
     """
-    refusal, entries = refusal_or([], fitting_entries, room, segments, level,
-                                  limits, numbers)
+    refusal, entries = refusal_or([], fitting_entries, room, segments, finest,
+                                  level, limits, numbers)
     return refusal, len(entries), length(entries), flat(entries)
 
 
-def measure(segments, level, limits, numbers):
+def measure(segments, finest, level, limits, numbers):
     """The refusal, the number of points and the length."""
-    refusal, entries = refusal_or([], accepted_entries, segments, level,
-                                  limits, numbers)
+    refusal, entries = refusal_or([], accepted_entries, segments, finest,
+                                  level, limits, numbers)
     return refusal, len(entries), length(entries)

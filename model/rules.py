@@ -1,6 +1,6 @@
 """Refusals, and the rules that several parts of the model share."""
-from model.constants import (FARTHEST, FINEST, HIGHEST, LOWEST, MOST_SEGMENTS,
-                             ONE_UNIT)
+from model.constants import (FARTHEST, HIGHEST, LEAST_FINEST, LOWEST,
+                             MOST_FINEST, MOST_SEGMENTS, ONE_UNIT)
 
 
 class Refused(Exception):
@@ -28,14 +28,33 @@ def demand_segments(segments):
     demand(1 <= segments <= MOST_SEGMENTS, 14)
 
 
-def demand_level(level):
-    demand(0 <= level <= FINEST, 3)
+# The finest level F: 2^F is reckoned only where F is known to be one
+
+def is_finest(finest):
+    return LEAST_FINEST <= finest <= MOST_FINEST
 
 
-def demand_points(points):
+def is_level(level, finest):
+    return 0 <= level <= finest
+
+
+def reach(finest):
+    """How far apart neighbours may be in each coordinate."""
+    return min(FARTHEST, (2**finest - 2) // 3)
+
+
+def demand_finest(finest):
+    demand(is_finest(finest), 24)
+
+
+def demand_level(level, finest):
+    demand(is_level(level, finest), 3)
+
+
+def demand_points(points, finest):
     """1 over all the points, and only then 2."""
     for point in points:
         demand(all(LOWEST <= value <= HIGHEST for value in point), 1)
     for pair in zip(points, points[1:]):
-        demand(all(abs(there - here) <= FARTHEST
+        demand(all(abs(there - here) <= reach(finest)
                    for here, there in zip(*pair)), 2)

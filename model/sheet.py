@@ -1,10 +1,11 @@
 """The model's sheet: its bytes and its number list, read and written.
 
-A path is (level, points).
+A path is (level, points); its finest level is the same on every sheet.
 """
 from struct import Struct
 
-from model.constants import MOST_BYTES, MOST_PATHS, POINT_NUMBERS
+from model.constants import (MOST_BYTES, MOST_PATHS, POINT_NUMBERS,
+                             SHEET_FINEST)
 from model.points import (Point, flat, numbers_in, points_in, points_of,
                           segments_of)
 from model.rules import (demand, demand_level, demand_limits, demand_points,
@@ -57,11 +58,11 @@ def read_record(data, start):
     demand(points_start <= len(data), 15)
     segments, level = RECORD.unpack_from(data, start)
     demand_segments(segments)
-    demand_level(level)
+    demand_level(level, SHEET_FINEST)
     end = points_start + POINT.size * points_in(segments)
     demand(end <= len(data), 15)
     points = [Point(*row) for row in POINT.iter_unpack(data[points_start:end])]
-    demand_points(points)
+    demand_points(points, SHEET_FINEST)
     return (level, points), end
 
 
@@ -105,11 +106,11 @@ def take_path(numbers, start):
     demand(points_start <= len(numbers), 17)
     segments, level = numbers[start:points_start]
     demand_segments(segments)
-    demand_level(level)
+    demand_level(level, SHEET_FINEST)
     end = points_start + numbers_in(segments)
     demand(end <= len(numbers), 17)
     points = points_of(numbers[points_start:end])
-    demand_points(points)
+    demand_points(points, SHEET_FINEST)
     return (level, points), end
 
 
