@@ -3,9 +3,10 @@
 CASES has (what is tried, name of the request, argument words, how the answer
 line begins), reckoned by hand. They are the rows of the two tables in
 crates/operations/proofs/Cases.antt, as far as an entry answers them, and the
-half of an odd a; most are drawings that a caller made up.
+half of an odd a; most are drawings that a caller made up. Where a row names no
+finest level it is 11.
 """
-from document_cases import LIMITS, drawing
+from document_cases import FINEST, LIMITS, drawing
 from model.constants import LEAST, MOST
 from model.points import flat
 from probe_protocol import line
@@ -14,9 +15,10 @@ HALVE, DOUBLE, STEP = 0, 1, 2
 
 
 def chosen(what, operation, level, q, b, c, c_of_y, limits=LIMITS,
-           of_width=(0, 0)):
+           of_width=(0, 0), finest=FINEST):
     """x has the registers b and c, y has c, the width b and c."""
-    words = drawing(level, q, 0, b, c, 0, 0, 0, c_of_y, 0, 0, *of_width)
+    words = drawing(level, q, 0, b, c, 0, 0, 0, c_of_y, 0, 0, *of_width,
+                    finest=finest)
     return what, "next", [*words, *limits], line([0, operation])
 
 
@@ -25,12 +27,14 @@ def chosen_past_width(what, operation, c, *of_width):
     return chosen(what, operation, 1, 0, 0, c, 0, LIMITS, of_width)
 
 
-def refused_choice(what, refusal, level, q, limits=LIMITS):
-    return what, "next", [*drawing(level, q), *limits], line([refusal, 0])
+def refused_choice(what, refusal, level, q, limits=LIMITS, finest=FINEST):
+    words = drawing(level, q, finest=finest)
+    return what, "next", [*words, *limits], line([refusal, 0])
 
 
-def operated(what, name, refusal, level, q, *registers):
-    return what, name, drawing(level, q, *registers), line([refusal, ""])
+def operated(what, name, refusal, level, q, *registers, finest=FINEST):
+    words = drawing(level, q, *registers, finest=finest)
+    return what, name, words, line([refusal, ""])
 
 
 def operated_width(what, name, refusal, level, *registers):
@@ -39,9 +43,9 @@ def operated_width(what, name, refusal, level, *registers):
                     *registers)
 
 
-def started(what, refusal, ys, level, widths=(0, 0, 0, 0)):
+def started(what, refusal, ys, level, widths=(0, 0, 0, 0), finest=FINEST):
     points = flat([0, y, width] for y, width in zip(ys, widths))
-    return what, "start", [*points, level], line([refusal, ""])
+    return what, "start", [*points, finest, level], line([refusal, ""])
 
 
 AT_REST = [0, 0, 0, 0]
@@ -78,6 +82,14 @@ CASES = [
     chosen_past_width("the width in 2", DOUBLE, 0, 0, HUGE),
     chosen_past_width("the width equal to lower", DOUBLE, 0, 0, 65_536),
     chosen_past_width("the width in 2, doubled", DOUBLE, 0, MOST, 0),
+    # 2^22 at level 5 is 131,072 in one step, at level 6 it is 65,536.
+    chosen("1: F = 6, level 5", HALVE, 5, 0, 0, 2**22, 0, finest=6),
+    chosen("1: F = 6, level 6, equal", STEP, 6, 0, 0, 2**22, 0, finest=6),
+    chosen("1: F = 6, level 6", STEP, 6, 0, 0, 2**24, 0, finest=6),
+    chosen("1: F = 12, level 11", HALVE, 11, 0, 0, 2**28, 0, finest=12),
+    chosen("1: F = 12, level 12", STEP, 12, 0, 0, 2**30, 0, finest=12),
+    chosen("2: F = 6, in line", DOUBLE, 2, 32, 0, 0, 0, finest=6),
+    chosen("2: F = 6, not in line", STEP, 2, 16, 0, 0, 0, finest=6),
     operated("10: level 12", "step", 10, 12, 0),
     operated("10 before 6", "halve", 10, 12, 0),
     operated("10 before 5", "step", 10, 12, 2_048),
@@ -110,6 +122,23 @@ CASES = [
                    2**30 - 1, 0, 0, 0),
     operated_width("10 by the width's a doubled", "double", 10, 1,
                    2**30, 0, 0, 0),
+    operated("10: F = 5", "step", 10, 0, 0, finest=5),
+    operated("10: F = 13", "step", 10, 0, 0, finest=13),
+    *[operated("10: every number 0", name, 10, 0, 0, finest=0)
+      for name in ("halve", "double", "step")],
+    operated("5 by F = 6", "step", 5, 0, 64, finest=6),
+    operated("the last position by F = 6", "step", 0, 6, 63, finest=6),
+    operated("10: past the end by F = 6", "step", 10, 6, 65, finest=6),
+    operated("10: level 7 by F = 6", "step", 10, 7, 0, finest=6),
+    operated("6 by F = 6", "halve", 6, 6, 0, finest=6),
+    operated("level 5 is halved by F = 6", "halve", 0, 5, 0, finest=6),
+    operated("8 by F = 6", "double", 8, 1, 32, finest=6),
+    operated("5 by F = 12", "step", 5, 0, 4_096, finest=12),
+    operated("the last position by F = 12", "step", 0, 12, 4_095, finest=12),
+    operated("6 by F = 12", "halve", 6, 12, 0, finest=12),
+    operated("level 11 is halved by F = 12", "halve", 0, 11, 0, finest=12),
+    operated("10: level 13 by F = 12", "step", 10, 13, 0, finest=12),
+    operated("8 by F = 12", "double", 8, 1, 2_048, finest=12),
     ("half of an odd a", "halve", drawing(0, 0, -3, 0, 0, 0),
      line([0, *drawing(1, 0, -2, 2, 0, 0)])),
     started("1 before 2 and 3", 1, [16_384, 0, 0, 0], 12),
@@ -126,8 +155,22 @@ CASES = [
     started("widths at their ends", 0, [16_383] * 4, 11, [-16_384] * 4),
     started("widths as far apart as they may be", 0, AT_REST, 11,
             [682, 0, 682, 0]),
+    started("24 before 1", 24, [16_384, 0, 0, 0], 0, finest=5),
+    started("24 by F = 13", 24, AT_REST, 0, finest=13),
+    started("as far apart as F = 6 lets it", 0, [20, 0, 0, 0], 6, finest=6),
+    started("3 by F = 6", 3, [20, 0, 0, 0], 7, finest=6),
+    started("2 before 3 by F = 6", 2, [21, 0, 0, 0], 7, finest=6),
+    started("1 before 2 and 3 by F = 6", 1, [16_384, 0, 0, 0], 7, finest=6),
+    started("as far apart as F = 12 lets it", 0, [682, 0, 0, 0], 12,
+            finest=12),
+    started("3 by F = 12", 3, [682, 0, 0, 0], 13, finest=12),
+    started("2 before 3 by F = 12", 2, [683, 0, 0, 0], 13, finest=12),
     refused_choice("4 before 10 and 5", 4, 12, 2_048, [0, 0]),
     refused_choice("4 before 5", 4, 0, 2_048, [65_537, 0]),
     refused_choice("choosing: 10 before 5", 10, 12, 2_048),
     refused_choice("choosing: 5", 5, 0, 2_048),
+    refused_choice("4 before 10 by F = 5", 4, 0, 0, [0, 0], finest=5),
+    refused_choice("choosing: 10 by F = 5", 10, 0, 0, finest=5),
+    refused_choice("choosing: 5 by F = 6", 5, 0, 64, finest=6),
+    refused_choice("choosing: 5 by F = 12", 5, 0, 4_096, finest=12),
 ]

@@ -5,10 +5,11 @@ It comes from the random.Random that is handed in, so that a seed decides it.
 from itertools import product
 
 from makers import point
-from model.constants import (FARTHEST, FINEST, HIGHEST, LEAST, LOWEST, MOST,
-                             MOST_SEGMENTS, ONE_UNIT, POINT_NUMBERS,
-                             STANDARD_LIMITS)
+from model.constants import (FARTHEST, HIGHEST, LEAST, LEAST_FINEST, LOWEST,
+                             MOST, MOST_FINEST, MOST_SEGMENTS, ONE_UNIT,
+                             POINT_NUMBERS, SHEET_FINEST, STANDARD_LIMITS)
 from model.points import points_in
+from model.rules import reach
 
 
 def one_in(chance, number):
@@ -17,6 +18,21 @@ def one_in(chance, number):
 
 def clamped(value, least, most):
     return min(max(value, least), most)
+
+
+# Finest levels, and levels
+
+FINEST_LEVELS = range(LEAST_FINEST, MOST_FINEST + 1)
+
+
+def random_finest(chance):
+    """Each of them often, and the ends more often."""
+    return chance.choice([LEAST_FINEST, MOST_FINEST, MOST_FINEST,
+                          *FINEST_LEVELS])
+
+
+def random_level(chance, finest):
+    return chance.randint(0, finest)
 
 
 # Points whose neighbours are near enough
@@ -30,34 +46,32 @@ def random_start(chance):
     return chance.choice([point(), tuple(anywhere), chance.choice(CORNERS)])
 
 
-def random_walk(chance, start, number, reach):
-    """So many points; reach() is how far the next may be in x and in y, and
-    how far in width."""
+def random_walk(chance, start, number, farthest):
+    """So many points; farthest() is how far the next may be in x and in y,
+    and how far in width."""
     points = []
     for _ in range(number):
         points.append(start)
-        of_place, of_width = reach()
+        of_place, of_width = farthest()
         far = of_place, of_place, of_width
         start = tuple(clamped(value + chance.randint(-most, most), LOWEST,
                               HIGHEST) for value, most in zip(start, far))
     return points
 
 
-def random_points(chance, number):
+def random_points(chance, number, finest):
     """So many: all of them near together or all far apart, and so the widths
     by themselves."""
-    reach = chance.choices([0, 1, 3, 3, 20, 20, 100, FARTHEST], k=2)
-    return random_walk(chance, random_start(chance), number, lambda: reach)
+    most = reach(finest)
+    farthest = [min(each, most) for each in
+                chance.choices([0, 1, 3, 3, 20, 20, 100, most], k=2)]
+    return random_walk(chance, random_start(chance), number, lambda: farthest)
 
 
 # Good sheets, and what they are made of
 
 GOOD_LIMITS = [(1, 0), (1, 1), (ONE_UNIT, 0), (ONE_UNIT, ONE_UNIT),
                (40_000, 20)]
-
-
-def random_level(chance):
-    return chance.randint(0, FINEST)
 
 
 def random_limits(chance):
@@ -72,7 +86,7 @@ def random_path(chance):
     points = random_walk(chance, random_start(chance),
                          points_in(chance.randint(1, 2)),
                          lambda: chance.choices([3, FARTHEST], k=2))
-    return random_level(chance), points
+    return random_level(chance, SHEET_FINEST), points
 
 
 def random_sheet(chance):
@@ -85,16 +99,17 @@ def random_sheet(chance):
 # Damage
 
 def strange_byte(chance):
-    return chance.choice([0, 1, 2, FINEST, FINEST + 1, MOST_SEGMENTS,
-                          MOST_SEGMENTS + 1, 127, 128, 255,
+    return chance.choice([0, 1, 2, SHEET_FINEST, SHEET_FINEST + 1,
+                          MOST_SEGMENTS, MOST_SEGMENTS + 1, 127, 128, 255,
                           chance.randrange(256)])
 
 
 def strange_number(chance):
-    return chance.choice([-1, 0, 1, 2, 3, FINEST, FINEST + 1, MOST_SEGMENTS,
-                          MOST_SEGMENTS + 1, FARTHEST, FARTHEST + 1, HIGHEST,
-                          HIGHEST + 1, LOWEST, LOWEST - 1, ONE_UNIT, MOST,
-                          LEAST, chance.randint(-700, 700)])
+    return chance.choice([-1, 0, 1, 2, 3, SHEET_FINEST, SHEET_FINEST + 1,
+                          MOST_SEGMENTS, MOST_SEGMENTS + 1, FARTHEST,
+                          FARTHEST + 1, HIGHEST, HIGHEST + 1, LOWEST,
+                          LOWEST - 1, ONE_UNIT, MOST, LEAST,
+                          chance.randint(-700, 700)])
 
 
 def damage(chance, values, strange):

@@ -20,7 +20,7 @@ from document_cases import SHEET
 from listing_cases import TOO_LONG, make_sheets
 from makers import LONGEST
 from model.listing import listing
-from probe_model import OUTCOMES, answered, missing
+from outcomes import OUTCOMES, answered, missing
 from probe_protocol import in_words
 from probe_requests import limit_requests, make_batch
 from programs import build_missing, run_program
@@ -88,9 +88,9 @@ def compare_answers(report, requests, ended):
     outcomes = []
     for request, line in zip_longest(requests, lines[:len(requests)],
                                      fillvalue="no line"):
-        model_line, outcome = answered(request)
+        model_line, told = answered(request)
         report.equal(in_words(request), model_line, line)
-        outcomes.append(outcome)
+        outcomes += told
     return outcomes
 
 
@@ -121,8 +121,8 @@ def compare_requests(report, seed, number, root):
 def show_tally(tally):
     for name, outcomes in OUTCOMES.items():
         counts = {one: tally[name, one] for one in sorted(outcomes, key=str)}
-        print(f"{name}: {sum(counts.values())};",
-              ", ".join(f"{one}: {count}" for one, count in counts.items()))
+        print(f"{name}:",
+              "; ".join(f"{one}: {count}" for one, count in counts.items()))
 
 
 # The listing

@@ -1,9 +1,10 @@
 """Document 01's own cases: A to M as requests for the probe, and its sheet.
 
 CASES has (letter, name of the request, argument words, answer line). The
-cases speak of one coordinate, x here; the others are 0 throughout. Every number
-of an answer is the document's, or reckoned by hand where it gives none: the
-lengths of B, K and L, the start and the step of M.
+cases speak of one coordinate, x here; the others are 0 throughout. Their
+finest level is 11, which document 01 knows no other than. Every number of an
+answer is the document's, or reckoned by hand where it gives none: the lengths
+of B, K and L, the start and the step of M.
 
 SHEET is path A in the form of order 8, its widths 0; OLD_SHEET has the bytes
 that document 01 gives, which have no widths.
@@ -28,6 +29,7 @@ path 0 points 5 length 3000
 
 SHEET_NUMBERS = [1, 65_536, 32_768, 1, 0, 0, 0, 0, 1, 0, 0, 2, 0, 0, 3, 0, 0]
 
+FINEST = 11
 LIMITS = [65_536, 32_768]
 
 
@@ -36,22 +38,26 @@ def on_x(*values):
     return flat(makers.on_x(*values))
 
 
-def drawing(level, q, *registers):
-    """A drawing with these registers of x."""
+def drawing(level, q, *registers, finest=FINEST):
+    """A drawing with these registers, of x first; the others are 0."""
     others = REGISTER_WORDS - len(registers)
-    return [level, q, *registers, *[0] * others]
+    return [finest, level, q, *registers, *[0] * others]
+
+
+NO_DRAWING = drawing(0, 0, finest=0)        # what a refused start gives
 
 
 def drawn(letter, level, xs, positions, drawn_xs, length):
     """A path of one segment, drawn with as much room as it needs."""
     entries = flat([position, *on_x(x)]
                    for position, x in zip(positions, drawn_xs))
-    words = [len(entries), 1, level, *LIMITS, *on_x(*xs)]
+    words = [len(entries), 1, FINEST, level, *LIMITS, *on_x(*xs)]
     return letter, "draw", words, line([0, len(positions), length, *entries])
 
 
 def start(letter, level, xs, refusal, numbers):
-    return letter, "start", [*on_x(*xs), level], line([refusal, *numbers])
+    words = [*on_x(*xs), FINEST, level]
+    return letter, "start", words, line([refusal, *numbers])
 
 
 def started(letter, level, xs, numbers):
@@ -59,7 +65,7 @@ def started(letter, level, xs, numbers):
 
 
 def refused_start(letter, level, xs, refusal):
-    return start(letter, level, xs, refusal, drawing(0, 0))
+    return start(letter, level, xs, refusal, NO_DRAWING)
 
 
 def operated(letter, name, before, after, refusal=0):

@@ -1,19 +1,22 @@
 """Argument words for the probe's requests of one drawing, made by chance."""
 from itertools import product
 
-from chance import clamped, one_in, random_level, random_limits, random_points
-from model.constants import (END, FARTHEST, FINEST, HIGHEST, LEAST, LOWEST,
-                             MOST, ONE_UNIT, POINT_NUMBERS)
-from model.drawing import (DOUBLE, HALVE, STEP, STILL, double_registers,
-                           doubled, halve_registers, largest_increment,
-                           operate, start, step_registers, step_size)
+from chance import (clamped, one_in, random_finest, random_level,
+                    random_limits, random_points)
+from finest_requests import (any_level, any_position, bad_finest, bad_place,
+                             before_end, telling_place)
+from model.constants import (COORDINATES, FARTHEST, HIGHEST, LEAST, LOWEST,
+                             MOST, MOST_FINEST, ONE_UNIT, POINT_NUMBERS,
+                             SHEET_FINEST)
+from model.drawing import (DOUBLE, HALVE, STEP, STILL, Drawing,
+                           double_registers, doubled, halve_registers,
+                           largest_increment, operate, start, step_registers)
 from model.points import flat, numbers_in, points_in
+from model.rules import reach
 from probe_protocol import REGISTER_WORDS, drawing_of, words_of
 
 EDGES = [MOST, MOST - 1, LEAST, LEAST + 1, 0, 1, -1, 32_767, 32_768, -32_768,
          -32_769, MOST - 32_768, MOST - 32_767]
-BAD_LEVELS = [FINEST + 1, FINEST + 2, 31, 32, FINEST + 32, 2**31 - 1, 2**31,
-              2**32 - 1]
 BAD_COORDINATES = [HIGHEST + 1, LOWEST - 1, 32_767, 65_536, MOST, LEAST]
 BAD_LIMITS = [(0, 0), (ONE_UNIT + 1, 0), (1, 2), (ONE_UNIT, ONE_UNIT + 1),
               (2**31, 0), (2**32 - 1, 2**32 - 1), (ONE_UNIT, 2**31),
@@ -22,13 +25,15 @@ BAD_LIMITS = [(0, 0), (ONE_UNIT + 1, 0), (1, 2), (ONE_UNIT, ONE_UNIT + 1),
 
 # The numbers of control points
 
-def random_numbers(chance, segments):
-    return flat(random_points(chance, points_in(segments)))
+def random_numbers(chance, segments, finest):
+    return flat(random_points(chance, points_in(segments), finest))
 
 
-def set_gap(chance, numbers):
-    """Neighbours at the largest distance allowed, or one more, or far."""
-    gap = chance.choice([FARTHEST, FARTHEST + 1, FARTHEST + 1, 700, 9_000])
+def set_gap(chance, numbers, finest):
+    """Neighbours as far apart as they may be, or one more, or far."""
+    most = reach(finest)
+    gap = chance.choice([most, most + 1, most + 1,
+                         chance.randint(most + 1, FARTHEST + 1), 700, 9_000])
     gap *= chance.choice([1, -1])
     place = chance.randrange(POINT_NUMBERS, len(numbers))
     before = numbers[place - POINT_NUMBERS]
@@ -44,7 +49,7 @@ def spoil_coordinate(chance, numbers):
     numbers[place] = chance.choice(BAD_COORDINATES)
 
 
-# Drawings
+# Registers
 
 def random_register(chance):
     size = chance.choice([8, 16, 20, 31])
@@ -56,48 +61,9 @@ def any_words(chance, number):
     return [random_register(chance) for _ in range(number)]
 
 
-def any_level(chance):
-    if one_in(chance, 10):
-        return chance.choice(BAD_LEVELS)
-    return random_level(chance)
-
-
-def reached(chance):
-    """What random operations make of an accepted start."""
-    refusal, drawing = start(random_points(chance, points_in(1)),
-                             random_level(chance))
-    assert refusal == 0
-    operations = chance.choice([[HALVE, DOUBLE, STEP, STEP],
-                                [DOUBLE, STEP], [HALVE, STEP]])
-    for _ in range(chance.choice([0, 1, 3, 10, 40])):
-        _, drawing = operate(chance.choice(operations), drawing)
-    return drawing
-
-
-def reached_drawing(chance):
-    return words_of(reached(chance))
-
-
-def wide_drawing(chance):
-    """The width's registers are made up, and most times its c is large."""
-    a, b, c, d = any_words(chance, len(STILL))
-    if not one_in(chance, 4):
-        c = chance.choice([1, -1]) * chance.randrange(2**28, 2**31)
-    return words_of(reached(chance)._replace(width=(a, b, c, d)))
-
-
-def random_position(chance, level):
-    """Mostly a multiple of s, for a level that has an s."""
-    if level > FINEST or one_in(chance, 5):
-        return chance.choice([0, 1, END // 2, END - 1, END, END + 1, 2 * END,
-                              2**31, 2**32 - 1, chance.randint(0, END)])
-    return chance.randint(0, 2**level) * step_size(level)
-
-
-def made_up_drawing(chance):
-    level = any_level(chance)
-    return [level, random_position(chance, level),
-            *any_words(chance, REGISTER_WORDS)]
+def large_register(chance):
+    """As a c it is past every upper limit, at every level."""
+    return chance.choice([1, -1]) * chance.randrange(2**29, 2**31)
 
 
 NEW_REGISTERS = {"halve": halve_registers, "double": double_registers,
@@ -123,50 +89,129 @@ def edge_registers(chance, level, name):
     return [clamped(register, LEAST, MOST) for register in registers]
 
 
+# Drawings from an accepted start
+
+def reached(chance):
+    """What random operations make of an accepted start."""
+    finest = random_finest(chance)
+    refusal, drawing = start(random_points(chance, points_in(1), finest),
+                             finest, random_level(chance, finest))
+    assert refusal == 0
+    operations = chance.choice([[HALVE, DOUBLE, STEP, STEP],
+                                [DOUBLE, STEP], [HALVE, STEP]])
+    for _ in range(chance.choice([0, 1, 3, 10, 40])):
+        _, drawing = operate(chance.choice(operations), drawing)
+    return drawing
+
+
+def reached_drawing(chance):
+    return words_of(reached(chance))
+
+
+def wide_drawing(chance):
+    """The width's registers are made up, and most times its c is large."""
+    a, b, c, d = any_words(chance, len(STILL))
+    if not one_in(chance, 4):
+        c = large_register(chance)
+    return words_of(reached(chance)._replace(width=(a, b, c, d)))
+
+
+# Drawings that are made up
+
+def made_up_drawing(chance):
+    finest = random_finest(chance)
+    level = any_level(chance, finest)
+    return [finest, level, any_position(chance, finest, level),
+            *any_words(chance, REGISTER_WORDS)]
+
+
+def drawing_at(chance, finest, level, q):
+    """There, with every new register within 32 bits."""
+    return Drawing(finest, level, q, *(inner_registers(chance)
+                                       for _ in COORDINATES))
+
+
+def drawing_before_end(chance, finest, level):
+    return drawing_at(chance, finest, level, before_end(chance, finest, level))
+
+
+def bad_drawing(chance):
+    return words_of(drawing_at(chance, *bad_place(chance)))
+
+
+def telling_drawing(chance):
+    return words_of(drawing_at(chance, *telling_place(chance)))
+
+
+def fast_drawing(chance):
+    """At level F or 11, x or y has an increment past every upper limit."""
+    finest = random_finest(chance)
+    level = min(finest, chance.choice([finest, SHEET_FINEST]))
+    drawing = drawing_before_end(chance, finest, level)
+    fast = 0, 0, large_register(chance), 0
+    return words_of(drawing._replace(**{chance.choice("xy"): fast}))
+
+
+def slow_drawing(chance):
+    """x and y are at rest: level and position alone decide on a double."""
+    finest = random_finest(chance)
+    drawing = drawing_before_end(chance, finest, random_level(chance, finest))
+    return words_of(drawing._replace(x=STILL, y=STILL))
+
+
 def edge_drawing(chance, name):
-    """At least one coordinate is at the edge, as the width alone."""
-    level = random_level(chance)
-    q = chance.randrange(2**level) * step_size(level)
-    _, *some_moved = product([False, True], repeat=POINT_NUMBERS)
-    return [level, q, *flat(edge_registers(chance, level, name) if moved
-                            else inner_registers(chance)
-                            for moved in chance.choice(some_moved))]
+    """At least one coordinate is at the edge, often the width alone."""
+    finest = random_finest(chance)
+    level = random_level(chance, finest)
+    q = before_end(chance, finest, level)
+    _, width_alone, *others = product([False, True], repeat=POINT_NUMBERS)
+    return [finest, level, q,
+            *flat(edge_registers(chance, level, name) if moved
+                  else inner_registers(chance)
+                  for moved in chance.choice([width_alone, width_alone,
+                                              *others]))]
 
 
 # Requests
 
 def make_start(chance):
-    numbers, level = random_numbers(chance, 1), any_level(chance)
-    for spoil in (set_gap, spoil_coordinate):
-        if one_in(chance, 5):
-            spoil(chance, numbers)
+    finest = random_finest(chance)
+    numbers = random_numbers(chance, 1, finest)
+    level = any_level(chance, finest)
+    if one_in(chance, 5):
+        set_gap(chance, numbers, finest)
+    if one_in(chance, 5):
+        spoil_coordinate(chance, numbers)
     if one_in(chance, 20):
         numbers = any_words(chance, numbers_in(1))
-    return numbers + [level]
+    if one_in(chance, 8):
+        finest = bad_finest(chance)
+    return [*numbers, finest, level]
 
 
 def make_operation(chance, name):
-    kind = chance.randrange(5)
-    if kind == 0:
-        return made_up_drawing(chance)
-    if kind == 1:
+    if one_in(chance, 4):
         return edge_drawing(chance, name)
-    return reached_drawing(chance)
+    maker = chance.choice([reached_drawing, reached_drawing, reached_drawing,
+                           made_up_drawing, bad_drawing, bad_drawing,
+                           telling_drawing, telling_drawing])
+    return maker(chance)
 
 
 def any_drawing(chance):
     maker = chance.choice([reached_drawing, reached_drawing, wide_drawing,
-                           made_up_drawing])
+                           made_up_drawing, bad_drawing, telling_drawing,
+                           telling_drawing, fast_drawing, slow_drawing])
     return maker(chance)
 
 
 def near_increments(chance, drawing):
     """Limits next to the increments, now or after doubling."""
     increments = [1]
-    if drawing.level <= FINEST:
+    if drawing.level <= MOST_FINEST:
         increments.append(largest_increment(drawing))
-    if 0 < drawing.level <= FINEST:
-        in_line = drawing._replace(q=0)
+    if 0 < drawing.level <= MOST_FINEST:
+        in_line = drawing._replace(finest=MOST_FINEST, q=0)
         increments.append(largest_increment(doubled(in_line)))
     upper = chance.choice(increments) + chance.randint(-1, 1)
     lower = chance.choice(increments) + chance.randint(-1, 1)

@@ -11,9 +11,9 @@ from chance import damage, random_sheet, strange_byte
 from document_cases import OLD_SHEET, SHEET
 from makers import (LEVELS, LONGEST, LONGEST_SEGMENTS, MANY, on_width, point,
                     sheet, straight, zigzag)
-from model.constants import (DEGREE, FARTHEST, FINEST, HIGHEST, LOWEST,
-                             MOST_BYTES, MOST_SEGMENTS, ONE_UNIT,
-                             POINT_NUMBERS)
+from model.constants import (DEGREE, FARTHEST, HIGHEST, LOWEST, MOST_BYTES,
+                             MOST_SEGMENTS, ONE_UNIT, POINT_NUMBERS,
+                             SHEET_FINEST)
 from model.points import points_in
 from model.sheet import sheet_bytes
 from old_form import BY_HAND, OLD_PAIR
@@ -54,7 +54,8 @@ def edge_sheets():
             sheet(*MANY) + bytes(1), sheet(longest_lines()),
             sheet(wave(MOST_SEGMENTS, 3, 5, 7)),
             sheet(zigzag(MOST_SEGMENTS, 0, FARTHEST, -FARTHEST, FARTHEST)),
-            sheet_bytes(1, 0, [wave(MOST_SEGMENTS, FINEST, 6, 300, (5, 600))]),
+            sheet_bytes(1, 0, [wave(MOST_SEGMENTS, SHEET_FINEST, 6, 300,
+                                    (5, 600))]),
             *spoilt, *[data for _, data in BY_HAND]]
 
 
@@ -92,8 +93,9 @@ def good_sheets():
         sheet((0, on_width(5, -3, 0, 682, 1_364, 2_046)),
               (3, on_width(0, 0, -15_000, -15_682, -16_364, -16_384))),
         sheet_bytes(40_000, 20_000, [wave(3, 1, 9, 12, (24, 8)), corner, BENT]),
-        sheet_bytes(ONE_UNIT, ONE_UNIT, [wave(2, FINEST, 30, 40, (-7, 600)),
-                                         wave(5, 4, 2, 1)]),
+        sheet_bytes(ONE_UNIT, ONE_UNIT,
+                    [wave(2, SHEET_FINEST, 30, 40, (-7, 600)),
+                     wave(5, 4, 2, 1)]),
         sheet_bytes(ONE_UNIT, 0, [zigzag(2, 2, -60, 25, 7), corner]),
         sheet_bytes(20_000, 19_999, [slow]),
         sheet(*[straight(1, level, (level, -level, 3), (-level, 2, level))

@@ -3,8 +3,8 @@
 A path is (level, points), as in the model. A point may be given by its first
 coordinates: the others are 0.
 """
-from model.constants import (FINEST, MOST_PATHS, MOST_SEGMENTS, POINT_NUMBERS,
-                             STANDARD_LIMITS)
+from model.constants import (MOST_PATHS, MOST_SEGMENTS, POINT_NUMBERS,
+                             SHEET_FINEST, STANDARD_LIMITS)
 from model.points import points_in
 from model.sheet import sheet_bytes, sheet_numbers
 
@@ -58,7 +58,7 @@ def number_list(*paths):
 
 # As many paths as a sheet has room for, at every level: 12 + 32 * 1,023 bytes,
 # 32,748. The count may be 1,024, but so many do not fit.
-LEVELS = FINEST + 1
+LEVELS = SHEET_FINEST + 1
 MANY = [straight(1, k % LEVELS, (k, -k, 2 * k), (0, k % 5, k % 7))
         for k in range(MOST_PATHS - 1)]
 

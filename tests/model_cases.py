@@ -3,8 +3,8 @@
     python3 tests/model_cases.py
 
 Every expected number was reckoned by hand or is the document's. Beside them,
-random drawings are held to the exact curve, random paths to what order 8 says
-of widths and of old sheets, and listings to those that are proved.
+random drawings and paths of every finest level are held to the exact curve and
+to what orders 8 and 9 say of them, and listings to those that are proved.
 """
 import random
 import re
@@ -12,23 +12,28 @@ import sys
 
 from above import ROOT
 from boundaries import CASES as BOUNDARIES
-from chance import random_level, random_limits, random_points
-from document_cases import CASES, LISTING, OLD_SHEET, SHEET, SHEET_NUMBERS
-from exact_curve import check_distance, check_start
+from chance import (FINEST_LEVELS, random_finest, random_level, random_limits,
+                    random_points)
+from document_cases import (CASES, FINEST, LISTING, OLD_SHEET, SHEET,
+                            SHEET_NUMBERS)
+from exact_curve import (check_distance, check_lists, check_positions,
+                         check_start)
+from finest_cases import CASES as FINEST_CASES
 from makers import (LONGEST, LONGEST_SEGMENTS, number_list, on_x, point, sheet,
                     straight)
 from model import constants
-from model.constants import (DEGREE, END, ENTRY_NUMBERS, LEAST, MOST,
+from model.constants import (DEGREE, ENTRY_NUMBERS, LEAST, MOST,
                              STANDARD_LIMITS)
-from model.drawing import (DOUBLE, HALVE, STEP, ZEROS, choose, operate, shown,
-                           start)
+from model.drawing import (DOUBLE, HALVE, STEP, ZEROS, choose, last_position,
+                           operate, shown, start)
 from model.listing import listing
 from model.path import draw, length, measure, path_entries
 from model.points import Point, flat, numbers_in, points_in
+from model.rules import reach
 from model.sheet import read_sheet, sheet_bytes, write_sheet
 from old_form import BY_HAND, REFUSALS, old_sheet, random_old_sheets
+from outcomes import answered
 from places import COUNT, UPPER, offset, put, swap
-from probe_model import answered
 from probe_protocol import request
 from spoilt import (FIRST, LISTED_ONLY, ONE, ONE_LIST, ONLY, SECOND,
                     SPOILT_LISTS, SPOILT_SHEETS, TWO)
@@ -38,16 +43,17 @@ from width_cases import CASES as WIDTHS
 ROOM = 40_000           # for every sheet and every number list
 
 
-def with_x(level, q, *registers):
+def with_x(level, q, *registers, finest=FINEST):
     """A drawing whose other coordinates stand still at 0."""
-    return ZEROS._replace(level=level, q=q, x=registers)
+    return ZEROS._replace(finest=finest, level=level, q=q, x=registers)
 
 
 # The document
 
 NUMBERS = [("POINT_NUMBERS", 3), ("ENTRY_NUMBERS", 4), ("LOWEST", -16_384),
-           ("HIGHEST", 16_383), ("FARTHEST", 682), ("FINEST", 11),
-           ("END", 2_048), ("LEAST", -2_147_483_648), ("MOST", 2_147_483_647),
+           ("HIGHEST", 16_383), ("FARTHEST", 682), ("LEAST_FINEST", 6),
+           ("MOST_FINEST", 12), ("SHEET_FINEST", 11),
+           ("LEAST", -2_147_483_648), ("MOST", 2_147_483_647),
            ("ONE_UNIT", 65_536), ("STANDARD_LIMITS", (65_536, 32_768)),
            ("DEGREE", 3), ("MOST_SEGMENTS", 64), ("MOST_PATHS", 1_024),
            ("MOST_BYTES", 32_768)]
@@ -58,10 +64,14 @@ def check_numbers(tally):
         tally.equal(name, getattr(constants, name), number)
     tally.equal("points of 64 segments", points_in(64), 193)
     tally.equal("numbers of 64 segments", numbers_in(64), 579)
+    tally.equal("ends", [last_position(finest) for finest in FINEST_LEVELS],
+                [64, 128, 256, 512, 1_024, 2_048, 4_096])
+    tally.equal("reaches", [reach(finest) for finest in FINEST_LEVELS],
+                [20, 42, 84, 170, 340, 682, 682])
 
 
 def check_document(tally):
-    for what, name, words, line in CASES + WIDTHS:
+    for what, name, words, line in CASES + WIDTHS + FINEST_CASES:
         tally.equal(f"case {what}, {name}",
                     answered(request(name, words))[0], line)
     tally.equal("the sheet of A", SHEET, ONE)
@@ -127,16 +137,17 @@ def check_edges(tally):
                  (2**31 - 32_768, 32_768), (LEAST, -32_768)]:
         tally.equal(f"shown for d = {d}",
                     shown(with_x(0, 0, 0, 0, 0, d)), point(x))
-    for level in (12, 32, 43, 2**32 - 1):
-        made_up = with_x(level, 0, 0, 0, 0, 0)
-        tally.equal(f"level {level}", operate(STEP, made_up), (10, made_up))
+    for number in (13, 32, 43, 2**32 - 1):
+        for made_up in (with_x(number, 0, 0, 0, 0, 0),
+                        with_x(0, 0, 0, 0, 0, 0, finest=number),
+                        with_x(number, 0, 0, 0, 0, 0, finest=number)):
+            tally.equal(f"level or F {number}", operate(STEP, made_up),
+                        (10, made_up))
     made_up = with_x(0, 0, MOST, LEAST, 0, 0)
     tally.equal("a new b outside 32 bits", operate(HALVE, made_up),
                 (10, made_up))
-    tally.equal("a drawing of zeros is one", operate(STEP, ZEROS),
-                (0, with_x(0, 2_048, 0, 0, 0, 0)))
     tally.equal("1 before a difference is taken",
-                start(on_x(LEAST, MOST, 0, 0), 0), (1, ZEROS))
+                start(on_x(LEAST, MOST, 0, 0), FINEST, 0), (1, ZEROS))
 
 
 # Paths
@@ -152,38 +163,40 @@ def check_paths(tally):
     # 3(3S + 1) is 2^32 - 1 for the first, and 2^32 + 8 for the second.
     for segments in (477_218_588, 477_218_589):
         check("3(3S+1) does not wrap round",
-              measure(segments, 0, limits, [0] * 8), (14, 0, 0))
-    check("two numbers a point", measure(1, 0, limits, [0] * 8), (14, 0, 0))
+              measure(segments, FINEST, 0, limits, [0] * 8), (14, 0, 0))
+    check("two numbers a point", measure(1, FINEST, 0, limits, [0] * 8),
+          (14, 0, 0))
     for bad in (point(700, 16_384), point(700, 0, 16_384)):
         points = on_x(0, 700, 700, 700, 700, 700, 700)
         points[5] = bad
         check("1 over all points before 2",
-              measure(2, 0, limits, flat(points)), (1, 0, 0))
+              measure(2, FINEST, 0, limits, flat(points)), (1, 0, 0))
     points = [point(x, y) for x, y in
               [(2, 2), (1, 1), (4, 4), (2, 1), (2, 3), (4, 0), (2, 2)]]
-    *_, numbers = draw(100, 2, 1, limits, flat(points))
+    *_, numbers = draw(100, 2, FINEST, 1, limits, flat(points))
     check("each segment starts at the path's level",
           numbers[::ENTRY_NUMBERS], [0, 2048, 3072, 4096])
     fives = segment(5)
     whole = flat([position, *fives[:ENTRY_NUMBERS - 1]]
                  for position in (0, 2048))
-    check("no room", draw(0, 1, 0, limits, fives), (9, 0, 0, []))
-    check("one short", draw(len(whole) - 1, 1, 0, limits, fives),
-          (9, 0, 0, []))
-    check("exact", draw(len(whole), 1, 0, limits, fives), (0, 2, 0, whole))
+    path = 1, FINEST, 0, limits, fives
+    check("no room", draw(0, *path), (9, 0, 0, []))
+    check("one short", draw(len(whole) - 1, *path), (9, 0, 0, []))
+    check("exact", draw(len(whole), *path), (0, 2, 0, whole))
     _, points = straight(1, 0, (0, 0, 5), (682, 682, -600))
-    check("a long segment", measure(1, 0, limits, flat(points)),
+    check("a long segment", measure(1, FINEST, 0, limits, flat(points)),
           (0, 2_049, 2_046 * 1_414))
-    check("the most points", measure(64, 11, (65_536, 0), [9] * numbers_in(64)),
-          (0, 131_073, 0))
+    check("the most points of a sheet's path",
+          measure(64, FINEST, 11, (65_536, 0), [9] * 579), (0, 131_073, 0))
 
 
 def check_path_order(tally):
-    order = [(14, 0, 12, (0, 0), segment(16_384)),
-             (1, 1, 12, (0, 0), segment(16_384, 0)),
-             (2, 1, 12, (0, 0), segment(700, 0)),
-             (3, 1, 12, (0, 0), segment(0)),
-             (4, 1, 0, (0, 0), segment(0))]
+    order = [(14, 0, 5, 12, (0, 0), segment(16_384)),
+             (24, 1, 5, 12, (0, 0), segment(16_384)),
+             (1, 1, 11, 12, (0, 0), segment(16_384, 0)),
+             (2, 1, 11, 12, (0, 0), segment(700, 0)),
+             (3, 1, 11, 12, (0, 0), segment(0)),
+             (4, 1, 11, 0, (0, 0), segment(0))]
     for refusal, *path in order:
         tally.equal(f"{refusal} in its order", measure(*path), (refusal, 0, 0))
         tally.equal(f"{refusal} before 9", draw(0, *path), (refusal, 0, 0, []))
@@ -278,12 +291,14 @@ def check_widths(tally):
     """Of random paths: what their widths change, and what they do not."""
     chance = random.Random(8)
     for _ in range(60):
+        finest = random_finest(chance)
+        number = points_in(chance.randint(1, 3))
         points = [Point(*each) for each in
-                  random_points(chance, points_in(chance.randint(1, 3)))]
-        path = random_level(chance), *random_limits(chance)
+                  random_points(chance, number, finest)]
+        path = finest, random_level(chance, finest), *random_limits(chance)
         entries = path_entries(points, *path)
         joins = [tuple(entry[1:]) for entry in entries
-                 if entry.position % END == 0]
+                 if entry.position % last_position(finest) == 0]
         tally.equal(f"the joins of {points}", joins, points[::DEGREE])
         still = [each._replace(width=0) for each in points]
         without = path_entries(still, *path)
@@ -317,8 +332,8 @@ def main():
     for check in (check_numbers, check_document, check_boundaries,
                   check_proved, check_choosing, check_edges, check_start,
                   check_paths, check_path_order, check_reading, check_longest,
-                  check_writing, check_spoilt, check_distance, check_widths,
-                  check_old_form):
+                  check_writing, check_spoilt, check_distance, check_lists,
+                  check_positions, check_widths, check_old_form):
         check(tally)
     sys.exit(tally.end())
 

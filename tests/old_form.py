@@ -10,7 +10,7 @@ from struct import pack
 
 from chance import clamped, random_level, random_limits
 from model.constants import (DEGREE, FARTHEST, HIGHEST, LOWEST, MOST_SEGMENTS,
-                             STANDARD_LIMITS)
+                             SHEET_FINEST, STANDARD_LIMITS)
 from model.points import points_in
 
 REFUSALS = {2, 13, 15}
@@ -45,7 +45,7 @@ def old_path(chance):
         points.append(here)
         here = tuple(clamped(value + chance.randint(-far, far), LOWEST,
                              HIGHEST) for value in here)
-    return random_level(chance), points
+    return random_level(chance, SHEET_FINEST), points
 
 
 def random_old_sheets(seed, number):

@@ -1,7 +1,8 @@
 """Argument words for the probe's requests of paths, made by chance."""
-from chance import clamped, one_in, random_level, random_limits
-from drawing_requests import (BAD_LEVELS, BAD_LIMITS, random_numbers, set_gap,
+from chance import clamped, one_in, random_finest, random_limits
+from drawing_requests import (BAD_LIMITS, random_numbers, set_gap,
                               spoil_coordinate)
+from finest_requests import bad_finest, bad_level, good_level
 from model.constants import ENTRY_NUMBERS, MOST_SEGMENTS, STANDARD_LIMITS
 from model.path import measure
 from probe_protocol import MOST_ROOM
@@ -18,26 +19,42 @@ class Path:
         self.segments = chance.choice([1, 1, 1, 1, 2, 2, 3, 5])
         if one_in(chance, 150):
             self.segments = MOST_SEGMENTS
-        self.level = random_level(chance)
+        self.finest = self.good = random_finest(chance)
+        self.level = good_level(chance, self.finest)
         self.limits = random_limits(chance)
-        self.numbers = random_numbers(chance, self.segments)
+        self.numbers = random_numbers(chance, self.segments, self.finest)
 
     def spoil(self, chance):
         """One fault, of every kind that a path is refused for."""
-        kind = chance.randrange(6)
-        if kind == 0:
-            self.segments = chance.choice([self.segments + 1,
-                                           chance.choice(BAD_SEGMENTS)])
-        elif kind == 1:
-            self.resize(chance)
-        elif kind == 2:
-            spoil_coordinate(chance, self.numbers)
-        elif kind == 3:
-            set_gap(chance, self.numbers)
-        elif kind == 4:
-            self.level = chance.choice(BAD_LEVELS)
-        else:
-            self.limits = chance.choice(BAD_LIMITS)
+        spoil = chance.choice([self.spoil_segments, self.resize,
+                               self.spoil_coordinate, self.spoil_coordinate,
+                               self.spoil_gap, self.spoil_gap,
+                               self.spoil_level, self.spoil_level,
+                               self.spoil_finest, self.spoil_finest,
+                               self.spoil_limits])
+        spoil(chance)
+
+    def spoil_segments(self, chance):
+        self.segments = chance.choice([self.segments + 1,
+                                       chance.choice(BAD_SEGMENTS)])
+
+    def spoil_coordinate(self, chance):
+        spoil_coordinate(chance, self.numbers)
+
+    def spoil_gap(self, chance):
+        set_gap(chance, self.numbers, self.good)
+
+    def spoil_level(self, chance):
+        self.level = bad_level(chance, self.good)
+
+    def spoil_finest(self, chance):
+        """Often with what is refused before it, or after it."""
+        self.finest = bad_finest(chance)
+        if one_in(chance, 3):
+            chance.choice([self.resize, self.spoil_coordinate])(chance)
+
+    def spoil_limits(self, chance):
+        self.limits = chance.choice(BAD_LIMITS)
 
     def resize(self, chance):
         """The points' numbers made more or fewer, at least 4."""
@@ -51,23 +68,24 @@ class Path:
         """Mostly small or exact for the list; seldom the most there is."""
         if one_in(chance, 60):
             return MOST_ROOM
-        if one_in(chance, 4):
+        if one_in(chance, 5):
             return chance.choice([0, 1, 7, 8, 20, chance.randrange(100)])
-        _, points, _ = measure(self.segments, self.level, self.limits,
-                               self.numbers)
-        more = chance.choice([0, 0, 0, 1, 20, -1, -2, -3, -4])
+        _, points, _ = measure(self.segments, self.finest, self.level,
+                               self.limits, self.numbers)
+        more = chance.choice([0, 0, 0, 1, 20, 100, -1, -4, -5])
         return clamped(ENTRY_NUMBERS * points + more, 0, MOST_ROOM)
 
     def words(self):
-        return [self.segments, self.level, *self.limits, *self.numbers]
+        return [self.segments, self.finest, self.level, *self.limits,
+                *self.numbers]
 
     def words_without_limits(self):
-        return [self.segments, self.level, *self.numbers]
+        return [self.segments, self.finest, self.level, *self.numbers]
 
 
 def make_path(chance):
     path = Path(chance)
-    for _ in range(chance.choice([0, 0, 0, 1, 1, 2])):
+    for _ in range(chance.choice([0, 0, 0, 1, 1, 1, 2])):
         path.spoil(chance)
     return path
 

@@ -5,27 +5,27 @@ argument words. It is answered by one line of numbers. A word that stands for
 an unsigned number is the same 32 bits.
 
     code               arguments                             answer
-     1 start           points level                          refusal drawing
+     1 start           points finest level                   refusal drawing
      2 halve           drawing                               refusal drawing
      3 double          drawing                               refusal drawing
      4 step            drawing                               refusal drawing
      5 next            drawing upper lower                   refusal operation
      6 shown           drawing                               x y width
-     7 draw            room segments level upper lower       refusal points
-                       points                                length list
-     8 measure         segments level upper lower points     refusal points
-                                                             length
+     7 draw            room segments finest level            refusal points
+                       upper lower points                    length list
+     8 measure         segments finest level                 refusal points
+                       upper lower points                    length
      9 read            room byte...                          refusal count list
     10 write           room number...                        refusal count bytes
     11 draw_standard     as 7, without upper and lower
     12 measure_standard  as 8, without upper and lower
     13 next_standard     as 5, without upper and lower
 
-Points are x, y and width of each; a start has four. A drawing is level, q,
-then a b c d of x, of y and of the width. The list and the bytes are the first
-`room` of a lent buffer after the call; the buffer holds -7 (a list) or 7
-(bytes) in every place before it. The operations that are answered are 0 halve,
-1 double, 2 step.
+Points are x, y and width of each; a start has four. A drawing is finest,
+level, q, then a b c d of x, of y and of the width. The list and the bytes are
+the first `room` of a lent buffer after the call; the buffer holds -7 (a list)
+or 7 (bytes) in every place before it. The operations that are answered are
+0 halve, 1 double, 2 step.
 
 Any other request is answered by "bad request". Its words are passed over;
 after a count out of range nothing is, so the next request starts there. A
@@ -48,10 +48,10 @@ CODES = {"start": 1, "halve": 2, "double": 3, "step": 4, "next": 5,
 NAMES = {code: name for name, code in CODES.items()}
 
 REGISTER_WORDS = len(STILL) * POINT_NUMBERS
-DRAWING_WORDS = 2 + REGISTER_WORDS
-POINTS_START = {"start": 0, "draw": 5, "measure": 4, "draw_standard": 3,
-                "measure_standard": 2}
-EXACT_WORDS = {"start": numbers_in(1) + 1, "halve": DRAWING_WORDS,
+DRAWING_WORDS = 3 + REGISTER_WORDS
+POINTS_START = {"start": 0, "draw": 6, "measure": 5, "draw_standard": 4,
+                "measure_standard": 3}
+EXACT_WORDS = {"start": numbers_in(1) + 2, "halve": DRAWING_WORDS,
                "double": DRAWING_WORDS, "step": DRAWING_WORDS,
                "next": DRAWING_WORDS + 2, "shown": DRAWING_WORDS,
                "next_standard": DRAWING_WORDS}
@@ -76,15 +76,16 @@ def whole_words(data):
 
 
 def drawing_of(words):
-    level, q, *registers = words
+    finest, level, q, *registers = words
     size = len(STILL)
-    return Drawing(unsigned(level), unsigned(q),
+    return Drawing(unsigned(finest), unsigned(level), unsigned(q),
                    *(tuple(registers[place:place + size])
                      for place in range(0, len(registers), size)))
 
 
 def words_of(drawing):
-    return [drawing.level, drawing.q, *flat(registers_of(drawing))]
+    return [drawing.finest, drawing.level, drawing.q,
+            *flat(registers_of(drawing))]
 
 
 # Requests

@@ -8,7 +8,7 @@ import random
 from chance import one_in
 from drawing_requests import (any_drawing, any_words, make_next,
                               make_operation, make_start)
-from model.constants import LEAST, MOST, STANDARD_LIMITS
+from model.constants import LEAST, MOST, SHEET_FINEST, STANDARD_LIMITS
 from model.points import numbers_in
 from path_requests import (make_draw, make_draw_standard, make_measure,
                            make_measure_standard)
@@ -107,7 +107,7 @@ def make_requests(chance, number):
 def limit_requests():
     """As many words, and as much room, as a request may have."""
     numbers = [0] * (MOST_WORDS - 1)
-    still = [1, 0, *STANDARD_LIMITS, *[5] * numbers_in(1)]
+    still = [1, SHEET_FINEST, 0, *STANDARD_LIMITS, *[5] * numbers_in(1)]
     return [request("write", [0, *numbers]),
             request("draw", [MOST_ROOM, *still])]
 

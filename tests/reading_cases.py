@@ -5,8 +5,8 @@ Those of the old form are among them.
 """
 from document_cases import OLD_SHEET
 from makers import sheet, straight
-from model.constants import (FINEST, HIGHEST, LOWEST, MOST_PATHS,
-                             MOST_SEGMENTS, ONE_UNIT, STANDARD_LIMITS)
+from model.constants import (HIGHEST, LOWEST, MOST_PATHS, MOST_SEGMENTS,
+                             ONE_UNIT, SHEET_FINEST, STANDARD_LIMITS)
 from old_form import BY_HAND, old_sheet, random_old_sheets
 from places import COUNT, LOWER, UPPER, offset, put, record_places
 from spoilt import BENT, FAR, FIRST, GAP, ONE, ONLY, SECOND, TWO
@@ -86,7 +86,8 @@ def add_records(read):
                      32_768, 65_535):
         read(14, put(TWO, (FIRST.segments, segments)))
         read(14, put(TWO, (SECOND.segments, segments)))
-    for level in (FINEST + 1, FINEST + 2, 255, 256, 32_768, 65_535):
+    for level in (SHEET_FINEST + 1, SHEET_FINEST + 2, 255, 256, 32_768,
+                  65_535):
         read(3, put(TWO, (FIRST.level, level)))
         read(3, put(TWO, (SECOND.level, level)))
     # 15: cut at every byte; 16: more bytes.
@@ -128,14 +129,14 @@ def add_order(read):
     # 15 for the first four bytes before 14 and 3.
     read(15, put(ONE, (ONLY.segments, 0))[:ONLY.start + 2])
     read(15, put(ONE, (ONLY.segments, MOST_SEGMENTS + 1),
-                 (ONLY.level, FINEST + 1))[:ONLY.start + 3])
+                 (ONLY.level, SHEET_FINEST + 1))[:ONLY.start + 3])
     # 14 before 3, and before 15 for the points.
-    read(14, put(ONE, (ONLY.segments, 0), (ONLY.level, FINEST + 1)))
+    read(14, put(ONE, (ONLY.segments, 0), (ONLY.level, SHEET_FINEST + 1)))
     read(14, put(ONE, (ONLY.segments, MOST_SEGMENTS + 1)))
     # 3 before 15 for the points: 64 segments, level 12, cut.
     read(3, put(ONE, (ONLY.segments, MOST_SEGMENTS),
-                (ONLY.level, FINEST + 1)))
-    read(3, put(ONE, (ONLY.level, FINEST + 1))[:ONLY.start + 4])
+                (ONLY.level, SHEET_FINEST + 1)))
+    read(3, put(ONE, (ONLY.level, SHEET_FINEST + 1))[:ONLY.start + 4])
     # 15 for the points before 1 and 2.
     read(15, put(ONE, (ONLY.x(0), FAR))[:-1])
     read(15, put(ONE, (ONLY.x(1), GAP))[:-1])
@@ -157,8 +158,9 @@ def add_order(read):
 def faults(k, record, gap):
     """A fault of record k for each refusal."""
     return {13: (offset(k), record.start + 1), 14: (record.segments, 0),
-            3: (record.level, FINEST + 1), 15: (record.segments, MOST_SEGMENTS),
-            1: (record.x(0), FAR), 2: (record.x(3), gap)}
+            3: (record.level, SHEET_FINEST + 1),
+            15: (record.segments, MOST_SEGMENTS), 1: (record.x(0), FAR),
+            2: (record.x(3), gap)}
 
 
 def add_order_across(read):

@@ -21,8 +21,9 @@ from chance import (CORNERS, damage, random_sheet, strange_byte,
 from document_cases import SHEET, SHEET_NUMBERS
 from makers import (LEVELS, LONGEST_SEGMENTS, MANY, jump, number_list,
                     on_width, point, sheet, straight, zigzag)
-from model.constants import (FARTHEST, FINEST, HIGHEST, LOWEST, MOST_BYTES,
-                             MOST_SEGMENTS, ONE_UNIT, STANDARD_LIMITS)
+from model.constants import (FARTHEST, HIGHEST, LOWEST, MOST_BYTES,
+                             MOST_SEGMENTS, ONE_UNIT, SHEET_FINEST,
+                             STANDARD_LIMITS)
 from model.sheet import read_sheet, sheet_bytes, sheet_numbers, write_sheet
 from places import LISTED_COUNT, swap
 from probe_protocol import UNUSED_BYTE, UNUSED_NUMBER, lent, line, packed
@@ -90,7 +91,8 @@ def good_sheets():
     for upper, lower in limits:
         yield upper, lower, []
         yield upper, lower, [straight(1)]
-    several = [straight(2, 5, (10, -10, 24), (-3, 4, -2)), straight(1, FINEST),
+    several = [straight(2, 5, (10, -10, 24), (-3, 4, -2)),
+               straight(1, SHEET_FINEST),
                straight(MOST_SEGMENTS, 7, (LOWEST, HIGHEST, 90), (2, -2, 1)),
                BENT, straight(3, 1, (9, 9, 9), (0, 0))]
     yield 3, 2, several
@@ -161,7 +163,7 @@ def add_large(cases):
     cases.write(17, listed + [0], MOST_ROOM)
     # Good paths that are too large and a bad one: its number before 11.
     one_more = swap(listed, (LISTED_COUNT, len(parts) + 1))
-    cases.write(3, one_more + [1, FINEST + 1], MOST_ROOM)
+    cases.write(3, one_more + [1, SHEET_FINEST + 1], MOST_ROOM)
     # As many paths as there is room for, and as many as may be counted, which
     # are too large: 32,780 bytes.
     cases.read(0, sheet(*MANY), MOST_ROOM)

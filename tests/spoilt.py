@@ -4,14 +4,14 @@ SPOILT_SHEETS and SPOILT_LISTS have some for each refusal of reading and of
 writing, by its number, but for 9, which depends on the room alone.
 """
 from makers import jump, number_list, point, sheet, straight
-from model.constants import (DEGREE, FARTHEST, FINEST, HIGHEST, LEAST, LOWEST,
-                             MOST, MOST_PATHS, MOST_SEGMENTS, ONE_UNIT,
-                             POINT_NUMBERS, STANDARD_LIMITS)
+from model.constants import (DEGREE, FARTHEST, HIGHEST, LEAST, LOWEST, MOST,
+                             MOST_PATHS, MOST_SEGMENTS, ONE_UNIT,
+                             POINT_NUMBERS, SHEET_FINEST, STANDARD_LIMITS)
 from places import (COUNT, LISTED_COUNT, LISTED_LOWER, LISTED_UPPER, LOWER,
                     UPPER, listed_places, offset, put, record_places, swap)
 
-BENT = (FINEST, [point(-5, 7, 24), point(-4, 9, -30), point(100, -200, 8),
-                 point(50, 60, 400)])
+BENT = (SHEET_FINEST, [point(-5, 7, 24), point(-4, 9, -30),
+                       point(100, -200, 8), point(50, 60, 400)])
 PAIR = [straight(1), BENT]
 
 ONE, ONE_LIST = sheet(straight(1)), number_list(straight(1))
@@ -42,8 +42,8 @@ SPOILT_SHEETS = {
         sheet(jump(2, 3, 0, -FARTHEST - 1)) + bytes(1),
         put(TWO, (SECOND.width(0), -30 + FARTHEST + 1)),
         sheet(jump(2, 5, 0, 0, -FARTHEST - 1))],
-    3: [put(ONE, (ONLY.level, FINEST + 1)), put(TWO, (SECOND.level, 256)),
-        put(TWO, (FIRST.level, 65_535))],
+    3: [put(ONE, (ONLY.level, SHEET_FINEST + 1)),
+        put(TWO, (SECOND.level, 256)), put(TWO, (FIRST.level, 65_535))],
     4: [put(ONE, (UPPER, 0)), put(ONE, (UPPER, ONE_UNIT + 1)),
         put(TWO, (LOWER, ONE_UNIT + 1)), put(TWO, (LOWER, 2**31))],
     11: [b"", sheet()[:1], sheet()[:-1]],
@@ -71,7 +71,7 @@ SPOILT_LISTS = {
         number_list(jump(2, 2, 0, FARTHEST + 1)) + [0],
         swap(ONE_LIST, (LISTED_ONLY.width(0), FARTHEST + 1)),
         number_list(jump(2, 2, 0, 0, -FARTHEST - 1))],
-    3: [swap(ONE_LIST, (LISTED_ONLY.level, FINEST + 1)),
+    3: [swap(ONE_LIST, (LISTED_ONLY.level, SHEET_FINEST + 1)),
         swap(TWO_LIST, (LISTED_SECOND.level, -1)),
         swap(TWO_LIST, (LISTED_FIRST.level, MOST))],
     4: [[0, 0, 0], swap(ONE_LIST, (LISTED_UPPER, ONE_UNIT + 1)),

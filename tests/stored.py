@@ -14,15 +14,17 @@ import kept
 from above import ROOT
 from boundaries import CASES as BOUNDARIES
 from document_cases import CASES, LISTING, SHEET
+from finest_cases import CASES as FINEST
 from listing_cases import TOO_LONG, gate_sheets
 from model.listing import listing
-from probe_model import answered, missing
+from model.points import flat
+from outcomes import RULES, answered, missing
 from probe_protocol import packed, request
 from probe_requests import limit_requests, make_requests
 from sheet_cases import make_cases
 from width_cases import CASES as WIDTHS
 
-EACH = 8                # requests of each outcome
+EACH, TELLING = 8, 2    # requests of each outcome, and of one that tells F
 SMALL = 5_000           # bytes of a request and its answer
 TRIED = 4_000           # requests that they are picked from
 LARGE = {("write", 11)}  # outcomes that no small request has
@@ -34,12 +36,12 @@ def joined(lines):
     return "".join(line + "\n" for line in lines).encode()
 
 
-# The probe: the document's cases, those of order 8, the boundaries, and a few
-# requests of each outcome
+# The probe: the document's cases, those of orders 8 and 9, the boundaries, and
+# a few requests of each outcome
 
 def case_requests():
     requests = []
-    for what, name, words, line in CASES + WIDTHS:
+    for what, name, words, line in CASES + WIDTHS + FINEST:
         requests.append(request(name, words))
         assert answered(requests[-1])[0] == line, what
     return requests
@@ -55,19 +57,21 @@ def boundary_requests():
 
 def most_of(outcome, size):
     """How many requests of this outcome and size are stored."""
-    if size <= SMALL:
-        return EACH
-    return 1 if outcome in LARGE else 0
+    if size > SMALL:
+        return 1 if outcome in LARGE else 0
+    name, one = outcome
+    return EACH if one in RULES[name] else TELLING
 
 
 def picked_requests():
     """A few of each outcome, small ones."""
     picked, tally = [], Counter()
     for one in make_requests(random.Random(2), TRIED):
-        line, outcome = answered(one)
-        if tally[outcome] < most_of(outcome, len(one) + len(line)):
+        line, outcomes = answered(one)
+        size = len(one) + len(line)
+        if any(tally[each] < most_of(each, size) for each in outcomes):
             picked.append(one)
-            tally[outcome] += 1
+            tally.update(outcomes)
     return picked
 
 
@@ -76,9 +80,10 @@ def probe_files():
                 + picked_requests())
     cut_off = requests[0][:-1]
     requests.append(cut_off)
-    answers = [answered(one) for one in requests]
-    assert not missing(Counter(outcome for _, outcome in answers))
-    return b"".join(requests), joined(line for line, _ in answers)
+    lines, outcomes = zip(*map(answered, requests))
+    lacking = missing(Counter(flat(outcomes)))
+    assert not lacking, lacking
+    return b"".join(requests), joined(lines)
 
 
 # The other programs

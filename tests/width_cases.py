@@ -2,7 +2,7 @@
 
 CASES has (what is tried, name of the request, argument words, answer line).
 """
-from document_cases import LIMITS
+from document_cases import FINEST, LIMITS
 from makers import on_width
 from model.points import flat
 from probe_protocol import line
@@ -11,7 +11,7 @@ from probe_protocol import line
 def drawn(what, level, segments, points, entries, length):
     """A path drawn with as much room as it needs."""
     numbers = flat(entries)
-    words = [len(numbers), segments, level, *LIMITS, *flat(points)]
+    words = [len(numbers), segments, FINEST, level, *LIMITS, *flat(points)]
     return what, "draw", words, line([0, len(entries), length, *numbers])
 
 
@@ -20,19 +20,19 @@ def drawn(what, level, segments, points, entries, length):
 
 THREE = [(0, 3, 0), (1, 2, 0), (2, 1, 0), (3, 0, 8)]
 
-STARTED = [0, 0,
+STARTED = [FINEST, 0, 0,
            0, 0, 196_608, 0,
            0, 0, -196_608, 196_608,
            3_145_728, 3_145_728, 524_288, 0]
-HALVED = [1, 0,
+HALVED = [FINEST, 1, 0,
           0, 0, 196_608, 0,
           0, 0, -196_608, 196_608,
           1_572_864, 1_572_864, 131_072, 0]
-HALVED_TWICE = [2, 0,
+HALVED_TWICE = [FINEST, 2, 0,
                 0, 0, 196_608, 0,
                 0, 0, -196_608, 196_608,
                 786_432, 786_432, 32_768, 0]
-STEPPED = [2, 512,
+STEPPED = [FINEST, 2, 512,
            0, 0, 196_608, 49_152,
            0, 0, -196_608, 147_456,
            786_432, 1_572_864, 229_376, 8_192]
@@ -53,7 +53,7 @@ CASES = [
     drawn("three curves", 0, 1, THREE, THREE_DRAWN, 1_414 + 2_000 + 1_414),
     drawn("a join", 0, 2, JOINED, [(0, 6, -2, 4), (2_048, 6, -2, 9),
                                    (4_096, 6, -2, 3)], 0),
-    ("three curves", "start", [*flat(THREE), 0], line([0, *STARTED])),
+    ("three curves", "start", [*flat(THREE), FINEST, 0], line([0, *STARTED])),
     ("three curves", "halve", STARTED, line([0, *HALVED])),
     ("three curves", "halve", HALVED, line([0, *HALVED_TWICE])),
     ("three curves", "double", HALVED_TWICE, line([0, *HALVED])),
@@ -61,6 +61,7 @@ CASES = [
     ("three curves", "next", [*STARTED, *LIMITS], line([0, 0])),
     ("three curves", "next", [*HALVED_TWICE, *LIMITS], line([0, 2])),
     ("three curves", "shown", STEPPED, line([1, 2, 0])),
-    ("x, y and width", "shown", [0, 0, 0, 0, 0, 65_536, 0, 0, 0, -131_072,
-                                 0, 0, 0, 196_608], line([1, -2, 3])),
+    ("x, y and width", "shown", [FINEST, 0, 0, 0, 0, 0, 65_536,
+                                 0, 0, 0, -131_072, 0, 0, 0, 196_608],
+     line([1, -2, 3])),
 ]

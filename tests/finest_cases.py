@@ -1,0 +1,256 @@
+"""Order 9's cases, reckoned by hand: requests for the probe at every finest
+level F, and at some that are none.
+
+CASES has (what is tried, name of the request, argument words, answer line).
+"""
+from document_cases import LIMITS, NO_DRAWING, TWELVE, drawing, on_x
+from makers import on_width
+from model.points import flat
+from probe_protocol import UNUSED_NUMBER, line
+
+# F, the end of a segment, and how far apart neighbours may be
+BY_FINEST = [(6, 64, 20), (7, 128, 42), (8, 256, 84), (9, 512, 170),
+             (10, 1_024, 340), (11, 2_048, 682), (12, 4_096, 682)]
+
+NO_FINEST = [5, 13, 0, 31, 32, 43, 2**31, 2**32 - 1]
+
+ROOM = 8                # of a list that is not written: two entries
+UNWRITTEN = [UNUSED_NUMBER] * ROOM
+
+
+def started(what, finest, level, numbers, *registers):
+    answer = [0, *drawing(level, 0, *registers, finest=finest)]
+    return what, "start", [*numbers, finest, level], line(answer)
+
+
+def refused_start(what, refusal, finest, level, numbers):
+    return (what, "start", [*numbers, finest, level],
+            line([refusal, *NO_DRAWING]))
+
+
+def operated(what, name, before, after, refusal=0):
+    return what, name, before, line([refusal, *after])
+
+
+def drawn(what, segments, finest, numbers, entries, length):
+    """A path drawn from level 0, with as much room as it needs."""
+    listed = flat(entries)
+    words = [len(listed), segments, finest, 0, *LIMITS, *numbers]
+    return what, "draw", words, line([0, len(entries), length, *listed])
+
+
+def measured(what, points, length, segments, finest, level, limits, numbers):
+    words = [segments, finest, level, *limits, *numbers]
+    return what, "measure", words, line([0, points, length])
+
+
+def refused_path(what, refusal, segments, finest, level, limits, numbers):
+    """By each of the entries; by those without limits too, but for 4."""
+    path = [segments, finest, level]
+    refused, full = line([refusal, 0, 0]), line([refusal, 0, 0, *UNWRITTEN])
+    cases = [(what, "draw", [ROOM, *path, *limits, *numbers], full),
+             (what, "measure", [*path, *limits, *numbers], refused)]
+    if refusal != 4:
+        cases += [(what, "draw_standard", [ROOM, *path, *numbers], full),
+                  (what, "measure_standard", [*path, *numbers], refused)]
+    return cases
+
+
+# Document 01's C, 0, 0, 0, 8. At level n, a and b are 3,145,728 / 2^n and c is
+# 524,288 / 4^n, as far as it goes: at level 10 it is 2 - (3,072 >> 11), then
+# 1 - (1,536 >> 12), then 1 - (768 >> 13).
+
+C_POINTS = on_x(0, 0, 0, 8)
+C_HALVED = [(3_145_728, 524_288), (1_572_864, 131_072), (786_432, 32_768),
+            (393_216, 8_192), (196_608, 2_048), (98_304, 512), (49_152, 128),
+            (24_576, 32), (12_288, 8), (6_144, 2), (3_072, 1), (1_536, 1),
+            (768, 1)]
+
+
+def halved(finest, level):
+    a, c = C_HALVED[level]
+    return drawing(level, 0, a, a, c, 0, finest=finest)
+
+
+def halves(finest):
+    """From level 0 down to F, and one level back."""
+    a, c = C_HALVED[0]
+    yield started("C", finest, 0, C_POINTS, a, a, c, 0)
+    for level in range(finest):
+        yield operated("C halved", "halve", halved(finest, level),
+                       halved(finest, level + 1))
+    last = halved(finest, finest)
+    yield operated("6 at level F", "halve", last, last, refusal=6)
+    yield operated("level F doubled", "double", last,
+                   halved(finest, finest - 1))
+
+
+# C halved twice, and its steps to the end: b, c and d. x is 8/64, 1, 216/64
+# and 8 there.
+
+C_STEPPED = [(786_432, 32_768, 0), (1_572_864, 229_376, 8_192),
+             (2_359_296, 622_592, 65_536), (3_145_728, 1_212_416, 221_184),
+             (3_932_160, 1_998_848, 524_288)]
+
+
+def steps(finest, positions):
+    drawings = [drawing(2, q, 786_432, *registers, finest=finest)
+                for q, registers in zip(positions, C_STEPPED)]
+    for before, after in zip(drawings, drawings[1:]):
+        yield operated("C stepped", "step", before, after)
+    end = drawings[-1]
+    for name in ("halve", "double", "step"):
+        yield operated("5 at the end by F", name, end, end, refusal=5)
+    yield "5 at the end by F", "next", [*end, *LIMITS], line([5, 0])
+    yield "5 at the end by F", "next_standard", end, line([5, 0])
+    yield "the end", "shown", end, line([8, 0, 0])
+
+
+# Document 01's M: half of the way is no multiple of 2s.
+
+def half_way(finest, q):
+    stepped = drawing(1, q, 1_572_864, 3_145_728, 917_504, 65_536,
+                      finest=finest)
+    yield operated("M", "step", halved(finest, 1), stepped)
+    yield operated("M", "double", stepped, stepped, refusal=8)
+
+
+# Level F, and the one above it: 0, 1, 2, 3 has C = 3 alone.
+
+def levels(finest):
+    points = on_x(0, 1, 2, 3)
+    yield started("level F", finest, finest, points, 0, 0, 196_608, 0)
+    yield refused_start("3 above F", 3, finest, finest + 1, points)
+    yield from refused_path("3 above F", 3, 1, finest, finest + 1, LIMITS,
+                            points)
+
+
+# Neighbours as far apart as they may be, and one more. 0, r, r, r has C = 3r,
+# B = -3r and A = r: at level 0, a = 6r, b = 0 and c = r, in 65,536ths. The
+# width alone is drawn in one step.
+
+def corner(far):
+    return [0, far, far, far]
+
+
+def neighbours(finest, end, far):
+    yield started("neighbours", finest, 0, on_x(*corner(far)),
+                  65_536 * 6 * far, 0, 65_536 * far, 0)
+    yield drawn("neighbours", 1, finest, flat(on_width(3, 4, *corner(far))),
+                [(0, 3, 4, 0), (end, 3, 4, far)], 0)
+    for numbers in (on_x(*corner(far + 1)), on_x(*corner(-far - 1)),
+                    flat(on_width(3, 4, *corner(far + 1)))):
+        yield refused_start("2 by F", 2, finest, 0, numbers)
+        yield from refused_path("2 by F", 2, 1, finest, 0, LIMITS, numbers)
+
+
+# 0, r, 2r, 3r is the fastest curve. 3r is more than half of 2^F up to F = 11,
+# so that each position is listed. At F = 12 level 11 will do, unless upper is
+# half as large.
+
+def fastest(finest, far, points, limits=LIMITS):
+    return measured("the fastest curve", points, 3_000 * far, 1, finest, 0,
+                    limits, on_x(0, far, 2 * far, 3 * far))
+
+
+# Lists. Under these limits x goes as in document 01 where nothing but F is
+# another: L's positions are 1/32 and twice those that it gives. The path of
+# two segments goes on from its A: 0, 1, 2, 3 and then 4, 5, 6.
+
+L_DRAWN = [0, 1, 2, 3, 3, 4, 5, 5, 6, 7, 7, 8]
+TWO_DRAWN = [0, 1, 2, 2, 3, 4, 5, 5, 6]
+
+
+def entries(positions, xs):
+    return [(position, x, 0, 0) for position, x in zip(positions, xs)]
+
+
+LISTS = [
+    drawn("L", 1, 6, C_POINTS,
+          entries([0, 32, 40, 44, 48, 52, 54, 56, 58, 60, 62, 64], L_DRAWN),
+          8_000),
+    drawn("L", 1, 12, C_POINTS,
+          entries([2 * position for position in TWELVE], L_DRAWN), 8_000),
+    drawn("two segments", 2, 6, on_x(0, 1, 2, 3, 4, 5, 6),
+          entries([0, 16, 32, 48, 64, 80, 96, 112, 128], TWO_DRAWN), 6_000),
+    drawn("two segments", 2, 12, on_x(0, 1, 2, 3, 4, 5, 6),
+          entries([0, 1_024, 2_048, 3_072, 4_096, 5_120, 6_144, 7_168, 8_192],
+                  TWO_DRAWN), 6_000),
+    # An increment of 3,072 or 48 is larger than 1: all steps are at level F.
+    measured("rule 1 stops at F", 65, 3_000, 1, 6, 0, (1, 0),
+             on_x(0, 1, 2, 3)),
+    measured("rule 1 stops at F", 4_097, 3_000, 1, 12, 0, (1, 0),
+             on_x(0, 1, 2, 3)),
+    # Nothing is smaller than 0: level 12 stays. 64 * 4,096 + 1 entries.
+    measured("the most points", 262_145, 0, 64, 12, 12, (65_536, 0),
+             [9] * 579),
+]
+
+
+# F that is none: 24 and 10, and all that comes before and after 24.
+
+def without_finest(finest):
+    points = on_x(0, 1, 2, 3)
+    yield refused_start("24", 24, finest, 0, points)
+    yield from refused_path("24", 24, 1, finest, 0, LIMITS, points)
+    made_up = drawing(1, 0, 0, 0, 0, 65_536, finest=finest)
+    for name in ("halve", "double", "step"):
+        yield operated("10 by F", name, made_up, made_up, refusal=10)
+    yield "10 by F", "next", [*made_up, *LIMITS], line([10, 0])
+    yield "10 by F", "next_standard", made_up, line([10, 0])
+    yield "4 before 10 by F", "next", [*made_up, 0, 0], line([4, 0])
+    yield "no rule for F", "shown", made_up, line([1, 0, 0])
+
+
+FAR, APART = on_x(*[16_384] * 4), on_x(0, 700, 700, 700)
+
+ORDER = [
+    refused_start("24 before 1", 24, 5, 0, FAR),
+    refused_start("24 before 2", 24, 13, 0, APART),
+    refused_start("24 before 3", 24, 5, 12, on_x(0, 1, 2, 3)),
+    *refused_path("14 before 24: no segment", 14, 0, 5, 0, LIMITS,
+                  on_x(0, 1, 2, 3)),
+    *refused_path("14 before 24: 65 segments", 14, 65, 13, 0, LIMITS,
+                  on_x(0, 1, 2, 3)),
+    *refused_path("14 before 24: a number too few", 14, 1, 5, 0, LIMITS,
+                  on_x(0, 1, 2, 3)[:-1]),
+    *refused_path("24 before 1", 24, 1, 5, 0, LIMITS, FAR),
+    *refused_path("24 before 2", 24, 1, 13, 0, LIMITS, APART),
+    *refused_path("24 before 3", 24, 1, 5, 12, LIMITS, on_x(0, 1, 2, 3)),
+    *refused_path("24 before 4", 24, 1, 13, 0, (0, 0), on_x(0, 1, 2, 3)),
+    # By F = 6: 21 apart in the first segment, and the last point far away.
+    *refused_path("1 before 2 by F", 1, 2, 6, 0, LIMITS,
+                  on_x(0, 21, 21, 21, 21, 21, 16_384)),
+    *refused_path("2 by F before 3 by F", 2, 1, 6, 7, LIMITS,
+                  on_x(0, 21, 21, 21)),
+    *refused_path("3 by F before 4", 3, 1, 6, 7, (0, 0), on_x(0, 1, 2, 3)),
+    *refused_path("4", 4, 1, 6, 6, (0, 0), on_x(0, 1, 2, 3)),
+]
+
+
+# What a refused start gives is no drawing.
+
+def zeros():
+    for name in ("halve", "double", "step"):
+        yield operated("every number 0", name, NO_DRAWING, NO_DRAWING,
+                       refusal=10)
+    yield "every number 0", "next", [*NO_DRAWING, *LIMITS], line([10, 0])
+    yield "every number 0", "next_standard", NO_DRAWING, line([10, 0])
+    yield "every number 0", "shown", NO_DRAWING, line([0, 0, 0])
+
+
+CASES = [
+    *halves(6), *halves(12),
+    *steps(6, [0, 16, 32, 48, 64]),
+    *steps(12, [0, 1_024, 2_048, 3_072, 4_096]),
+    *half_way(6, 32), *half_way(12, 2_048),
+    *levels(6), *levels(12),
+    *flat(neighbours(*row) for row in BY_FINEST),
+    *[fastest(finest, far, end + 1) for finest, end, far in BY_FINEST[:-1]],
+    fastest(12, 682, 2_049), fastest(12, 682, 4_097, (32_768, 0)),
+    *LISTS,
+    *flat(without_finest(finest) for finest in NO_FINEST),
+    *ORDER,
+    refused_start("1 gives zeros", 1, 6, 0, FAR),
+    *zeros(),
+]
