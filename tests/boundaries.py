@@ -9,6 +9,7 @@ finest level it is 11.
 from document_cases import FINEST, LIMITS, drawing
 from model.constants import LEAST, MOST
 from model.points import flat
+from probe_model import OPERATION_NAMES
 from probe_protocol import line
 
 HALVE, DOUBLE, STEP = 0, 1, 2
@@ -125,7 +126,7 @@ CASES = [
     operated("10: F = 5", "step", 10, 0, 0, finest=5),
     operated("10: F = 13", "step", 10, 0, 0, finest=13),
     *[operated("10: every number 0", name, 10, 0, 0, finest=0)
-      for name in ("halve", "double", "step")],
+      for name in OPERATION_NAMES],
     operated("5 by F = 6", "step", 5, 0, 64, finest=6),
     operated("the last position by F = 6", "step", 0, 6, 63, finest=6),
     operated("10: past the end by F = 6", "step", 10, 6, 65, finest=6),

@@ -19,8 +19,9 @@ from above import ROOT
 from document_cases import SHEET
 from listing_cases import TOO_LONG, make_sheets
 from makers import LONGEST
+from misread import TELLING
 from model.listing import listing
-from outcomes import OUTCOMES, answered, missing
+from outcomes import RULES, answered, missing
 from probe_protocol import in_words
 from probe_requests import limit_requests, make_batch
 from programs import build_missing, run_program
@@ -119,10 +120,14 @@ def compare_requests(report, seed, number, root):
 
 
 def show_tally(tally):
-    for name, outcomes in OUTCOMES.items():
+    for name, outcomes in RULES.items():
         counts = {one: tally[name, one] for one in sorted(outcomes, key=str)}
-        print(f"{name}:",
-              "; ".join(f"{one}: {count}" for one, count in counts.items()))
+        print(f"{name}: {sum(counts.values())};",
+              ", ".join(f"{one}: {count}" for one, count in counts.items()))
+        telling = [tally[name, one] for one in TELLING.get(name, [])]
+        if telling:
+            print(f"    its finest level told in {len(telling)} ways, each",
+                  f"{min(telling)} times or more")
 
 
 # The listing

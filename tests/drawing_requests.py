@@ -200,8 +200,9 @@ def make_operation(chance, name):
 
 def any_drawing(chance):
     maker = chance.choice([reached_drawing, reached_drawing, wide_drawing,
-                           made_up_drawing, bad_drawing, telling_drawing,
-                           telling_drawing, fast_drawing, slow_drawing])
+                           made_up_drawing, bad_drawing, bad_drawing,
+                           telling_drawing, telling_drawing, fast_drawing,
+                           slow_drawing])
     return maker(chance)
 
 

@@ -6,6 +6,7 @@ CASES has (what is tried, name of the request, argument words, answer line).
 from document_cases import LIMITS, NO_DRAWING, TWELVE, drawing, on_x
 from makers import on_width
 from model.points import flat
+from probe_model import OPERATION_NAMES
 from probe_protocol import UNUSED_NUMBER, line
 
 # F, the end of a segment, and how far apart neighbours may be
@@ -14,8 +15,11 @@ BY_FINEST = [(6, 64, 20), (7, 128, 42), (8, 256, 84), (9, 512, 170),
 
 NO_FINEST = [5, 13, 0, 31, 32, 43, 2**31, 2**32 - 1]
 
-ROOM = 8                # of a list that is not written: two entries
+ROOM = 8                # two entries
 UNWRITTEN = [UNUSED_NUMBER] * ROOM
+
+# Document 01's A and C: C = 3 alone, and A = 8 alone
+A_POINTS, C_POINTS = on_x(0, 1, 2, 3), on_x(0, 0, 0, 8)
 
 
 def started(what, finest, level, numbers, *registers):
@@ -28,8 +32,16 @@ def refused_start(what, refusal, finest, level, numbers):
             line([refusal, *NO_DRAWING]))
 
 
-def operated(what, name, before, after, refusal=0):
-    return what, name, before, line([refusal, *after])
+def operated(what, name, before, after):
+    return what, name, before, line([0, *after])
+
+
+def refused_drawing(what, refusal, numbers):
+    """Refused by each operation, and by choosing."""
+    for name in OPERATION_NAMES:
+        yield what, name, numbers, line([refusal, *numbers])
+    yield what, "next", [*numbers, *LIMITS], line([refusal, 0])
+    yield what, "next_standard", numbers, line([refusal, 0])
 
 
 def drawn(what, segments, finest, numbers, entries, length):
@@ -44,23 +56,23 @@ def measured(what, points, length, segments, finest, level, limits, numbers):
     return what, "measure", words, line([0, points, length])
 
 
+def by_each_entry(what, path, limits, numbers, answer, listed):
+    """A path drawn and measured, with its limits and without them."""
+    for name, named in (("", limits), ("_standard", [])):
+        words = [*path, *named, *numbers]
+        yield what, "draw" + name, [ROOM, *words], line([*answer, *listed])
+        yield what, "measure" + name, words, line(answer)
+
+
 def refused_path(what, refusal, segments, finest, level, limits, numbers):
-    """By each of the entries; by those without limits too, but for 4."""
-    path = [segments, finest, level]
-    refused, full = line([refusal, 0, 0]), line([refusal, 0, 0, *UNWRITTEN])
-    cases = [(what, "draw", [ROOM, *path, *limits, *numbers], full),
-             (what, "measure", [*path, *limits, *numbers], refused)]
-    if refusal != 4:
-        cases += [(what, "draw_standard", [ROOM, *path, *numbers], full),
-                  (what, "measure_standard", [*path, *numbers], refused)]
-    return cases
+    return by_each_entry(what, [segments, finest, level], limits, numbers,
+                         [refusal, 0, 0], UNWRITTEN)
 
 
-# Document 01's C, 0, 0, 0, 8. At level n, a and b are 3,145,728 / 2^n and c is
-# 524,288 / 4^n, as far as it goes: at level 10 it is 2 - (3,072 >> 11), then
-# 1 - (1,536 >> 12), then 1 - (768 >> 13).
+# C at level n: a and b are 3,145,728 / 2^n and c is 524,288 / 4^n, as far as
+# that is whole; at level 10 it is 2 - (3,072 >> 11), then 1 - (1,536 >> 12),
+# and then 1 - (768 >> 13).
 
-C_POINTS = on_x(0, 0, 0, 8)
 C_HALVED = [(3_145_728, 524_288), (1_572_864, 131_072), (786_432, 32_768),
             (393_216, 8_192), (196_608, 2_048), (98_304, 512), (49_152, 128),
             (24_576, 32), (12_288, 8), (6_144, 2), (3_072, 1), (1_536, 1),
@@ -80,7 +92,7 @@ def halves(finest):
         yield operated("C halved", "halve", halved(finest, level),
                        halved(finest, level + 1))
     last = halved(finest, finest)
-    yield operated("6 at level F", "halve", last, last, refusal=6)
+    yield "6 at level F", "halve", last, line([6, *last])
     yield operated("level F doubled", "double", last,
                    halved(finest, finest - 1))
 
@@ -99,10 +111,7 @@ def steps(finest, positions):
     for before, after in zip(drawings, drawings[1:]):
         yield operated("C stepped", "step", before, after)
     end = drawings[-1]
-    for name in ("halve", "double", "step"):
-        yield operated("5 at the end by F", name, end, end, refusal=5)
-    yield "5 at the end by F", "next", [*end, *LIMITS], line([5, 0])
-    yield "5 at the end by F", "next_standard", end, line([5, 0])
+    yield from refused_drawing("5 at the end by F", 5, end)
     yield "the end", "shown", end, line([8, 0, 0])
 
 
@@ -112,17 +121,16 @@ def half_way(finest, q):
     stepped = drawing(1, q, 1_572_864, 3_145_728, 917_504, 65_536,
                       finest=finest)
     yield operated("M", "step", halved(finest, 1), stepped)
-    yield operated("M", "double", stepped, stepped, refusal=8)
+    yield "M", "double", stepped, line([8, *stepped])
 
 
-# Level F, and the one above it: 0, 1, 2, 3 has C = 3 alone.
+# Level F, and the one above it.
 
 def levels(finest):
-    points = on_x(0, 1, 2, 3)
-    yield started("level F", finest, finest, points, 0, 0, 196_608, 0)
-    yield refused_start("3 above F", 3, finest, finest + 1, points)
+    yield started("level F", finest, finest, A_POINTS, 0, 0, 196_608, 0)
+    yield refused_start("3 above F", 3, finest, finest + 1, A_POINTS)
     yield from refused_path("3 above F", 3, 1, finest, finest + 1, LIMITS,
-                            points)
+                            A_POINTS)
 
 
 # Neighbours as far apart as they may be, and one more. 0, r, r, r has C = 3r,
@@ -136,8 +144,9 @@ def corner(far):
 def neighbours(finest, end, far):
     yield started("neighbours", finest, 0, on_x(*corner(far)),
                   65_536 * 6 * far, 0, 65_536 * far, 0)
-    yield drawn("neighbours", 1, finest, flat(on_width(3, 4, *corner(far))),
-                [(0, 3, 4, 0), (end, 3, 4, far)], 0)
+    yield from by_each_entry("neighbours", [1, finest, 0], LIMITS,
+                             flat(on_width(3, 4, *corner(far))),
+                             [0, 2, 0], [0, 3, 4, 0, end, 3, 4, far])
     for numbers in (on_x(*corner(far + 1)), on_x(*corner(-far - 1)),
                     flat(on_width(3, 4, *corner(far + 1)))):
         yield refused_start("2 by F", 2, finest, 0, numbers)
@@ -153,12 +162,12 @@ def fastest(finest, far, points, limits=LIMITS):
                     limits, on_x(0, far, 2 * far, 3 * far))
 
 
-# Lists. Under these limits x goes as in document 01 where nothing but F is
-# another: L's positions are 1/32 and twice those that it gives. The path of
-# two segments goes on from its A: 0, 1, 2, 3 and then 4, 5, 6.
+# Lists. Where F alone is another, x goes as in document 01: L's positions are
+# those that it gives, divided by 32 at F = 6 and doubled at F = 12. The path
+# of two segments goes on after its A, from 3 to 6.
 
 L_DRAWN = [0, 1, 2, 3, 3, 4, 5, 5, 6, 7, 7, 8]
-TWO_DRAWN = [0, 1, 2, 2, 3, 4, 5, 5, 6]
+TWO_POINTS, TWO_DRAWN = on_x(*range(7)), [0, 1, 2, 2, 3, 4, 5, 5, 6]
 
 
 def entries(positions, xs):
@@ -171,16 +180,14 @@ LISTS = [
           8_000),
     drawn("L", 1, 12, C_POINTS,
           entries([2 * position for position in TWELVE], L_DRAWN), 8_000),
-    drawn("two segments", 2, 6, on_x(0, 1, 2, 3, 4, 5, 6),
+    drawn("two segments", 2, 6, TWO_POINTS,
           entries([0, 16, 32, 48, 64, 80, 96, 112, 128], TWO_DRAWN), 6_000),
-    drawn("two segments", 2, 12, on_x(0, 1, 2, 3, 4, 5, 6),
+    drawn("two segments", 2, 12, TWO_POINTS,
           entries([0, 1_024, 2_048, 3_072, 4_096, 5_120, 6_144, 7_168, 8_192],
                   TWO_DRAWN), 6_000),
     # An increment of 3,072 or 48 is larger than 1: all steps are at level F.
-    measured("rule 1 stops at F", 65, 3_000, 1, 6, 0, (1, 0),
-             on_x(0, 1, 2, 3)),
-    measured("rule 1 stops at F", 4_097, 3_000, 1, 12, 0, (1, 0),
-             on_x(0, 1, 2, 3)),
+    measured("rule 1 stops at F", 65, 3_000, 1, 6, 0, (1, 0), A_POINTS),
+    measured("rule 1 stops at F", 4_097, 3_000, 1, 12, 0, (1, 0), A_POINTS),
     # Nothing is smaller than 0: level 12 stays. 64 * 4,096 + 1 entries.
     measured("the most points", 262_145, 0, 64, 12, 12, (65_536, 0),
              [9] * 579),
@@ -190,14 +197,10 @@ LISTS = [
 # F that is none: 24 and 10, and all that comes before and after 24.
 
 def without_finest(finest):
-    points = on_x(0, 1, 2, 3)
-    yield refused_start("24", 24, finest, 0, points)
-    yield from refused_path("24", 24, 1, finest, 0, LIMITS, points)
+    yield refused_start("24", 24, finest, 0, A_POINTS)
+    yield from refused_path("24", 24, 1, finest, 0, LIMITS, A_POINTS)
     made_up = drawing(1, 0, 0, 0, 0, 65_536, finest=finest)
-    for name in ("halve", "double", "step"):
-        yield operated("10 by F", name, made_up, made_up, refusal=10)
-    yield "10 by F", "next", [*made_up, *LIMITS], line([10, 0])
-    yield "10 by F", "next_standard", made_up, line([10, 0])
+    yield from refused_drawing("10 by F", 10, made_up)
     yield "4 before 10 by F", "next", [*made_up, 0, 0], line([4, 0])
     yield "no rule for F", "shown", made_up, line([1, 0, 0])
 
@@ -207,37 +210,23 @@ FAR, APART = on_x(*[16_384] * 4), on_x(0, 700, 700, 700)
 ORDER = [
     refused_start("24 before 1", 24, 5, 0, FAR),
     refused_start("24 before 2", 24, 13, 0, APART),
-    refused_start("24 before 3", 24, 5, 12, on_x(0, 1, 2, 3)),
-    *refused_path("14 before 24: no segment", 14, 0, 5, 0, LIMITS,
-                  on_x(0, 1, 2, 3)),
-    *refused_path("14 before 24: 65 segments", 14, 65, 13, 0, LIMITS,
-                  on_x(0, 1, 2, 3)),
-    *refused_path("14 before 24: a number too few", 14, 1, 5, 0, LIMITS,
-                  on_x(0, 1, 2, 3)[:-1]),
+    refused_start("24 before 3", 24, 5, 12, A_POINTS),
+    *refused_path("14 before 24", 14, 0, 5, 0, LIMITS, A_POINTS),
+    *refused_path("14 before 24", 14, 65, 13, 0, LIMITS, A_POINTS),
+    *refused_path("14 by the size before 24", 14, 1, 5, 0, LIMITS,
+                  A_POINTS[:-1]),
     *refused_path("24 before 1", 24, 1, 5, 0, LIMITS, FAR),
     *refused_path("24 before 2", 24, 1, 13, 0, LIMITS, APART),
-    *refused_path("24 before 3", 24, 1, 5, 12, LIMITS, on_x(0, 1, 2, 3)),
-    *refused_path("24 before 4", 24, 1, 13, 0, (0, 0), on_x(0, 1, 2, 3)),
+    *refused_path("24 before 3", 24, 1, 5, 12, LIMITS, A_POINTS),
+    *refused_path("24 before 4", 24, 1, 13, 0, (0, 0), A_POINTS),
     # By F = 6: 21 apart in the first segment, and the last point far away.
     *refused_path("1 before 2 by F", 1, 2, 6, 0, LIMITS,
                   on_x(0, 21, 21, 21, 21, 21, 16_384)),
     *refused_path("2 by F before 3 by F", 2, 1, 6, 7, LIMITS,
                   on_x(0, 21, 21, 21)),
-    *refused_path("3 by F before 4", 3, 1, 6, 7, (0, 0), on_x(0, 1, 2, 3)),
-    *refused_path("4", 4, 1, 6, 6, (0, 0), on_x(0, 1, 2, 3)),
+    *refused_path("3 by F before 4", 3, 1, 6, 7, (0, 0), A_POINTS),
+    ("4 at level F", "measure", [1, 6, 6, 0, 0, *A_POINTS], line([4, 0, 0])),
 ]
-
-
-# What a refused start gives is no drawing.
-
-def zeros():
-    for name in ("halve", "double", "step"):
-        yield operated("every number 0", name, NO_DRAWING, NO_DRAWING,
-                       refusal=10)
-    yield "every number 0", "next", [*NO_DRAWING, *LIMITS], line([10, 0])
-    yield "every number 0", "next_standard", NO_DRAWING, line([10, 0])
-    yield "every number 0", "shown", NO_DRAWING, line([0, 0, 0])
-
 
 CASES = [
     *halves(6), *halves(12),
@@ -251,6 +240,7 @@ CASES = [
     *LISTS,
     *flat(without_finest(finest) for finest in NO_FINEST),
     *ORDER,
-    refused_start("1 gives zeros", 1, 6, 0, FAR),
-    *zeros(),
+    refused_start("every number 0", 1, 6, 0, FAR),
+    *refused_drawing("every number 0", 10, NO_DRAWING),
+    ("every number 0", "shown", NO_DRAWING, line([0, 0, 0])),
 ]

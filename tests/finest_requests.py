@@ -5,9 +5,9 @@ from model.constants import LEAST_FINEST, MOST_FINEST, SHEET_FINEST
 from model.drawing import last_position, step_size
 from model.rules import is_level
 
-BAD_FINEST = [0, 1, LEAST_FINEST - 2, MOST_FINEST + 2, 31, 32,
-              LEAST_FINEST + 32, SHEET_FINEST + 32, MOST_FINEST + 32,
-              2**31 - 1, 2**31, 2**31 + SHEET_FINEST, 2**32 - 1]
+BAD_FINEST = [MOST_FINEST + 2, 31, 32, LEAST_FINEST + 32, SHEET_FINEST + 32,
+              MOST_FINEST + 32, 2**31 - 1, 2**31, 2**31 + SHEET_FINEST,
+              2**32 - 1]
 BAD_LEVELS = [MOST_FINEST + 1, MOST_FINEST + 2, 31, 32, SHEET_FINEST + 32,
               2**31 - 1, 2**31, 2**32 - 1]
 
@@ -15,8 +15,9 @@ BAD_LEVELS = [MOST_FINEST + 1, MOST_FINEST + 2, 31, 32, SHEET_FINEST + 32,
 # What is none
 
 def bad_finest(chance):
-    """Most times next to the good ones."""
+    """Next to the good ones, too small, or much too large."""
     return chance.choice([LEAST_FINEST - 1, MOST_FINEST + 1,
+                          chance.randrange(LEAST_FINEST),
                           chance.choice(BAD_FINEST)])
 
 
@@ -51,7 +52,7 @@ def any_position(chance, finest, level):
 
 
 def before_end(chance, finest, level):
-    """A position at which every operation may be accepted, or refused 8."""
+    """A multiple of s."""
     return chance.randrange(2**level) * step_size(finest, level)
 
 

@@ -7,15 +7,15 @@ of many requests, by the name of the entry:
     6, by 11 0      the first rule that is broken, and the first one that is
                     broken with 11 in the place of F; 0 for none
 
-A path that is only measured tells by its count where a small upper limit
-makes F felt. Under the standard limits it never does: F changes positions.
+A path that is only measured tells by its count, where a small upper limit
+makes F felt. Under the standard limits F changes nothing but positions.
 """
 from chance import FINEST_LEVELS
 from model.constants import (FARTHEST, LEAST_FINEST, MOST_FINEST,
                              POINT_NUMBERS, SHEET_FINEST)
 from model.drawing import OPERATIONS, chosen, last_position, step_size
 from model.path import accepted_points
-from model.rules import is_finest, is_level, refusal_or
+from model.rules import is_finest, is_level, reach, refusal_or
 from probe_model import OPERATION_NAMES, answer, path_of, with_limits
 from probe_protocol import DRAWING_WORDS, POINTS_START, drawing_of, unsigned
 
@@ -31,18 +31,25 @@ def instead(right, wrong):
 
 
 AT = {at(finest) for finest in range(LEAST_FINEST - 1, MOST_FINEST + 2)}
-BY_FARTHEST = f"2 by {FARTHEST} alone"
-CURVES = AT | {instead(24, 1), instead(2, 0), instead(3, 0), instead(0, 3),
-               BY_FARTHEST}
+
+# Of starts and paths
+
+AT_REACH, BY_FARTHEST = "0 at the reach of F", f"2 by {FARTHEST} alone"
 BEFORE_24 = "14 before 24"
-PATHS = CURVES | {BEFORE_24}
 JOINED, MEASURED = "a join by another F", "another count by another F"
+CURVES = AT | {instead(24, 1), instead(2, 0), instead(3, 0), instead(0, 3),
+               AT_REACH, BY_FARTHEST}
+PATHS = CURVES | {BEFORE_24}
+
+# Of drawings
+
 LEVEL, PAST, BETWEEN = "10 by level", "10 past the end", "10 between steps"
 PAIRS = [pair for fault in (LEVEL, PAST, BETWEEN, 5)
          for pair in [(fault, 0), (0, fault)]]
 PLACES = AT | {instead(*pair) for pair in PAIRS}
 CHOICES = {instead("halve", "step"), instead("step", "halve"),
            instead("double", "step"), instead("step", "double")}
+
 TELLING = {
     "start": CURVES,
     "halve": PLACES | {instead(6, 0), instead(0, 6)},
@@ -115,6 +122,8 @@ def told_by_curve(name, words, numbers):
     finest = finest_of(name, words)
     if numbers[0] == 0:
         yield at(finest)
+        if widest_gap(name, words) == reach(finest):
+            yield AT_REACH
         if finest != TAKEN:
             yield from told_by_list(name, words, numbers)
 
@@ -140,7 +149,7 @@ def place_fault(finest, level, q):
 
 
 def is_refused_for_finest(name, words):
-    """Whether a drawing whose F is none would not be refused 10 by another."""
+    """Whether a drawing whose F is none would pass 10 with another F."""
     return any(answer_by(finest, name, words)[0] != 10
                for finest in FINEST_LEVELS)
 

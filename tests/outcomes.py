@@ -8,7 +8,7 @@ finest level, which misread.py has.
 from itertools import combinations
 
 from misread import (BETWEEN, LEVEL, PAST, TELLING, is_refused_for_finest,
-                     place_fault, told)
+                     place_fault, refusal_of, told)
 from model.constants import POINT_NUMBERS
 from model.drawing import DOUBLE, HALVE, STEP, STILL, choose, registers_of
 from model.rules import is_finest
@@ -17,8 +17,9 @@ from probe_protocol import (BAD, DRAWING_WORDS, POINTS_START, drawing_of,
                             fault_of, line, taken, words_of)
 from spoilt import READ_REFUSALS, WRITE_REFUSALS
 
-FINEST, BESIDE_FINEST = "10 by its finest level alone", "10 by F and more"
-PLACE = {FINEST, LEVEL, PAST, BETWEEN, 5}
+OF_FINEST, BESIDE = "10 by its finest level alone", "10 by F and more"
+NO_FINEST = "0 without a finest level"
+PLACE = {OF_FINEST, LEVEL, PAST, BETWEEN, 5}
 OF_WIDTH = "10 by registers of the width alone"
 REGISTERS = {"10 by registers", OF_WIDTH}
 POINTS = {1, 2, "1 by a width alone", "2 by a width alone"}
@@ -30,7 +31,7 @@ RULES = {
     "double": {0, 7, 8} | PLACE | REGISTERS,
     "step": {0} | PLACE | REGISTERS,
     "next": {4} | PLACE | CHOSEN,
-    "shown": {0},
+    "shown": {0, NO_FINEST},
     "draw": {0, 14, 24, 3, 4, 9} | POINTS,
     "measure": {0, 14, 24, 3, 4} | POINTS,
     "read": {0} | READ_REFUSALS,
@@ -50,7 +51,7 @@ def refused_drawing(name, words):
     drawing = drawing_of(words[:DRAWING_WORDS])
     if not is_finest(drawing.finest):
         alone = is_refused_for_finest(name, words)
-        return FINEST if alone else BESIDE_FINEST
+        return OF_FINEST if alone else BESIDE
     fault = place_fault(drawing.finest, drawing.level, drawing.q)
     if fault:
         return fault
@@ -61,11 +62,11 @@ def refused_drawing(name, words):
 def refused_points(name, words, refusal):
     """Whether points are refused 1 or 2 for their widths alone."""
     words = list(words)
-    # After the points of a start there is no place for another width.
+    # What follows the points of a start is not long enough for a width.
     for place in range(POINTS_START[name] + POINT_NUMBERS - 1, len(words),
                        POINT_NUMBERS):
         words[place] = 0
-    if answer(name, words)[0] == refusal:
+    if refusal_of(name, words) == refusal:
         return refusal
     return f"{refusal} by a width alone"
 
@@ -90,7 +91,7 @@ def outcome(name, words, numbers):
     """What came out, as it is called in RULES."""
     refusal = numbers[0]
     if name == "shown":
-        return 0
+        return 0 if is_finest(drawing_of(words).finest) else NO_FINEST
     if name in ("next", "next_standard") and refusal == 0:
         return choice_outcome(name, words, numbers[1])
     if name in POINTS_START and refusal in (1, 2):
