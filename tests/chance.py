@@ -1,4 +1,4 @@
-"""What is made by chance: walks of points, sheets, and damage to them.
+"""What is made by chance: levels, walks of points, sheets, and damage to them.
 
 It comes from the random.Random that is handed in, so that a seed decides it.
 """

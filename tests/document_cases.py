@@ -1,10 +1,10 @@
 """Document 01's own cases: A to M as requests for the probe, and its sheet.
 
 CASES has (letter, name of the request, argument words, answer line). The
-cases speak of one coordinate, x here; the others are 0 throughout. Their
-finest level is 11, which document 01 knows no other than. Every number of an
-answer is the document's, or reckoned by hand where it gives none: the lengths
-of B, K and L, the start and the step of M.
+cases speak of one coordinate, x here; the others are 0 throughout. The finest
+level is 11, the only one of document 01. Every number of an answer is the
+document's, or reckoned by hand where it gives none: the lengths of B, K and L,
+the start and the step of M.
 
 SHEET is path A in the form of order 8, its widths 0; OLD_SHEET has the bytes
 that document 01 gives, which have no widths.
