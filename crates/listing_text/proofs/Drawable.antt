@@ -1,11 +1,12 @@
--- Every path of an accepted sheet is one that draw and measure accept under the sheet's limits: 14, 1, 2, 3 and 4 cannot occur there.
+-- Every path of an accepted sheet is one that draw and measure accept at finest level 11 and under the sheet's limits: 14, 24, 1, 2, 3 and 4 cannot
+-- occur there.
 use mathlib.Core.Path.{_≡_}
 use mathlib.Core.Bool.{true}
 use mathlib.Core.List.{List, [], _∷_}
 use Prim.Native.Nat.{ℕ}
 use lib.IntN.{ℤ}
 use Rattle.numbers.specs.Tables.{All}
-use Rattle.rules.specs.Rules.{finest, areLimits, pointsRefusal}
+use Rattle.rules.specs.Rules.{isFinest, areLimits, pointsRefusal}
 use Rattle.path.specs.Path.{path, pathRefusal}
 use Rattle.sheet.specs.Bytes.{Bytes}
 use Rattle.sheet.specs.Sheet.{Target, Sheet, RightPath, Right}
@@ -16,10 +17,11 @@ use Rattle.sheet.proofs.RoundTrips.{read-accepted, write-accepted}
 
 -- measured without a refusal; drawing then refuses only by 9, for the room (`refuses-9` of path)
 abbrev pub Drawable : Sheet → Target → Type 0
-Drawable s t = pathRefusal finest (path (t .points) (t .segments) (t .level) (s .upper) (s .lower)) ≡ 0
+Drawable s t =
+    pathRefusal (path (t .points) (record { segments = t .segments; finest = 11; level = t .level }) (record { upper = s .upper; lower = s .lower })) ≡ 0
 
 pub path-drawable : (s : Sheet) (t : Target) → areLimits (s .upper) (s .lower) ≡ true → RightPath t → Drawable s t
-unfolding pathRefusal pointsRefusal
+unfolding pathRefusal pointsRefusal isFinest
 path-drawable s t limits p = rw (p .size, p .points, p .chained, p .level, limits)
 
 paths-drawable : (s : Sheet) (ts : List Target) → areLimits (s .upper) (s .lower) ≡ true → All RightPath ts → All (Drawable s) ts

@@ -9,7 +9,6 @@ use native.Mathlib.Omega.{arith}
 use lib.IntN.{ℤ}
 use lib.ListN.{length, drop, length-append}
 use Rattle.rules.specs.Refusals.{refusalOr, filled}
-use Rattle.rules.specs.Rules.{finest}
 use Rattle.entries.specs.declared.Entry.{Entry}
 use Rattle.entries.specs.Entries.{entrySize, flat, entriesIn}
 use Rattle.entries.proofs.Numbers.{length-flat, entries-back}
@@ -33,24 +32,24 @@ entries-tail l (suc n) = rw sub-one
 -- ---- the same path in other words
 
 pub drawn-same : {p p' : Path} {d : Drawn} {after : List ℤ} (list : List ℤ) → p ≡ p'
-    → d ≡ drawn finest p (length list) → after ≡ written finest p list → (d ≡ drawn finest p' (length list)) × (after ≡ written finest p' list)
-drawn-same list e a b = (a ∙ ap (λ p. drawn finest p (length list)) e, b ∙ ap (λ p. written finest p list) e)
+    → d ≡ drawn p (length list) → after ≡ written p list → (d ≡ drawn p' (length list)) × (after ≡ written p' list)
+drawn-same list e a b = (a ∙ ap (λ p. drawn p (length list)) e, b ∙ ap (λ p. written p list) e)
 
 -- ---- a segment that was drawn; one that is refused has no entries
 
 pub segment-read : (p : Path) (k : ℕ) (list : List ℤ)
-    → entriesIn (written finest (alone p k) list) 0 (drawn finest (alone p k) (length list) .points) ≡ segmentEntries p k (length list)
+    → entriesIn (written (alone p k) list) 0 (drawn (alone p k) (length list) .points) ≡ segmentEntries p k (length list)
 unfolding written drawn segmentEntries entriesIn
-segment-read p k list = by-number (drawRefusal finest (alone p k) (length list)) (entries finest (alone p k))
+segment-read p k list = by-number (drawRefusal (alone p k) (length list)) (entries (alone p k))
   where
     by-number : (r : ℕ) (es : List Entry) → entriesIn (filled r (flat es) list) 0 (refusalOr r refusedBy (answer es) .points) ≡ refusalOr r (λ _. []) es
     by-number zero es = entries-back es (drop (length (flat es)) list)
     by-number (suc r) es = refl
 
 pub segment-inside : (p : Path) (k : ℕ) (list : List ℤ)
-    → entrySize * drawn finest (alone p k) (length list) .points ≤ length (written finest (alone p k) list)
+    → entrySize * drawn (alone p k) (length list) .points ≤ length (written (alone p k) list)
 unfolding written drawn
-segment-inside p k list = by-number (drawRefusal finest (alone p k) (length list)) (entries finest (alone p k))
+segment-inside p k list = by-number (drawRefusal (alone p k) (length list)) (entries (alone p k))
   where
     by-number : (r : ℕ) (es : List Entry) → entrySize * refusalOr r refusedBy (answer es) .points ≤ length (filled r (flat es) list)
     by-number zero es = rw (length-append, length-flat) (omega arith)
@@ -63,8 +62,8 @@ map-tail f [] = refl
 map-tail f (x ∷ xs) = refl
 
 pub added-read : (p : Path) (k : ℕ) (list : List ℤ)
-    → map (shifted (2 ^ finest * k))
-    (entriesIn (written finest (alone p k) list) (min k 1) (drawn finest (alone p k) (length list) .points - min k 1))
+    → map (shifted (2 ^ p .finest * k))
+    (entriesIn (written (alone p k) list) (min k 1) (drawn (alone p k) (length list) .points - min k 1))
     ≡ added p k (length list)
 unfolding added
 added-read p zero list = rw (sub-zero, segment-read)
@@ -75,7 +74,7 @@ added-read p (suc k) list =
 -- ---- the piece at a place: its heading, and the lines of its segment's list, from entry 0 or from entry 1 on
 
 pub piece-read : (l : List ℤ) (q : Place) (list : List ℤ) → let p = segmentAt l q in
-    headingAt l q ++ linesIn (written finest p list) (min (q .segment) 1) (drawn finest p (length list) .points) (q .segment)
+    headingAt l q ++ linesIn (written p list) (min (q .segment) 1) (drawn p (length list) .points) (q .segment)
     ≡ pieceText l q (length list)
 unfolding pieceText
 piece-read l q list = ap (λ es. headingAt l q ++ entryLines es) (added-read (pathIn l (q .at)) (q .segment) list)

@@ -4,7 +4,7 @@
 use mathlib.Core.Path.{_≡_, refl}
 use mathlib.Core.List.{List, [], _∷_}
 use Prim.Native.Nat.{ℕ}
-use Rattle.rules.specs.Rules.{isCoordinate, areNeighbours, isLevel, areLimits, isSegments, isSize, arePoints, areBeside, areChained, headRefusal, pointsRefusal}
+use Rattle.rules.specs.Rules.{isFinest, reach, isCoordinate, areNeighbours, isLevel, areLimits, isSegments, isSize, arePoints, areBeside, areChained, headRefusal, pointsRefusal}
 use Rattle.coordinate.specs.Curve.{curve}
 use Rattle.coordinate.specs.Registers.{startRegisters, turn}
 use Rattle.coordinate.specs.Increment.{increment, doubledIncrement}
@@ -100,7 +100,7 @@ secondText =
 pub listings : (listing documentBytes ≡ documentText) × (listing secondBytes ≡ secondText)
 unfolding listing sheetText pathsText pathText pathsLine pathLine entryLine entryLines named followed decimal decimalIn numeral sheetAt recordsAt
     recordAt valuesAt sheetRefusal recordsRefusal recordRefusal bodyRefusal isOffset pathRules headRefusal pointsRefusal measured
-    pathRefusal isSegments isSize arePoints areChained areBeside isCoordinate areNeighbours isLevel areLimits entries following rest shownBy
+    pathRefusal isSegments isSize isFinest reach arePoints areChained areBeside isCoordinate areNeighbours isLevel areLimits entries following rest shownBy
     entry turns turnsIn choose wantsHalve wantsDouble increment doubledIncrement isAligned turned turn pixel first control pointAt
     startRegisters curve moveLength lengthFrom lengthOf
 listings = (refl, refl)

@@ -9,12 +9,10 @@ use lib.ListN.{length, length-append}
 use Rattle.numbers.specs.Tables.{All}
 use Rattle.numbers.proofs.Size.{Size, size-of, size-sum, size-by}
 use Rattle.numbers.proofs.Tables.{all-weaker}
-use Rattle.rules.specs.Rules.{finest}
 use Rattle.coordinate.specs.Shown.{pixel}
 use Rattle.operations.specs.Coordinates.{Coordinate, in-x, in-y, in-width}
 use Rattle.engine.specs.Drawing.{of}
 use Rattle.distance.specs.Calls.{after}
-use Rattle.distance.proofs.Demand3.{fine}
 use Rattle.entries.specs.declared.Entry.{Entry}
 use Rattle.text.proofs.Decimal.{decimal-few, numeral-few}
 use Rattle.text.proofs.Pieces.{put-whole}
@@ -27,7 +25,7 @@ use Rattle.path.specs.Listed.{begins, Placed}
 use Rattle.path.proofs.Accepted.{accepted-lawful}
 use Rattle.path.proofs.Joined.{alone-accepted}
 use Rattle.path.proofs.Near.{placed-near}
-use Rattle.path.proofs.Listed.{listed}
+use Rattle.path.proofs.Listed.{listed, at-most}
 use Rattle.listing_text.specs.declared.Place.{Place}
 use Rattle.listing_text.specs.Lines.{
   pathsWord,
@@ -52,7 +50,7 @@ use Rattle.listing_text.proofs.Joins.{segment-few, segment-whole}
 abbrev pub Inside : List ℤ → Place → Type 0
 Inside l q =
     let p = pathIn l (q .at) in
-    (pathRefusal finest p ≡ 0) × (q .segment < p .segments) × (q .path < 1024)
+    (pathRefusal p ≡ 0) × (q .segment < p .segments) × (q .path < 1024)
 
 -- ---- the numbers of a segment's entries
 
@@ -63,11 +61,11 @@ record Bounded (most : ℕ) (e : Entry) : Type 0 where
   width : Size (e .width) 16385
 
 -- an entry stands at its position, and is the point shown of a drawing of which demand 3 holds
-placed-bounded : (F : ℕ) (p : Path) (e : Entry) → Placed F p e → Bounded (2 ^ F * p .segments) e
+placed-bounded : (p : Path) (e : Entry) → Placed p e → Bounded (2 ^ p .finest * p .segments) e
 unfolding entry
-placed-bounded F p e l =
-    let d = after F (l .calls) (begins F p (l .k)) in
-    let near = placed-near F p e l in
+placed-bounded p e l =
+    let d = after (l .calls) (begins p (l .k)) in
+    let near = placed-near p e l in
     let shown : (c : Coordinate) → Size (pixel (of c d)) 16385 = λ c. record { le = l .demand .stands c .shown } in
     record {
       position = size-by (near .position) (near .inside) (size-of (near .at));
@@ -104,18 +102,22 @@ lines-joined zero es = omega arith
 lines-joined (suc k) [] = omega arith
 lines-joined (suc k) (e ∷ es) = rw (length-append (entryLine e)) (omega arith)
 
-module _ (p : Path) (k : ℕ) (e : pathRefusal finest p ≡ 0) (h : k < p .segments) where
-  segment-bounded : All (Bounded 2048) (entries finest (alone p k))
+-- of a sheet's path, whose finest level is 11
+module _ (l : List ℤ) (at k : ℕ) (e : pathRefusal (pathIn l at) ≡ 0) (h : k < pathIn l at .segments) where
+  abbrev p : Path
+  p = pathIn l at
+
+  segment-bounded : All (Bounded 2048) (entries (alone p k))
   unfolding alone
   segment-bounded =
-      all-weaker (placed-bounded finest (alone p k)) (entries finest (alone p k)) (listed finest (alone p k) fine (alone-accepted finest p k e h) .placed)
+      all-weaker (placed-bounded (alone p k)) (entries (alone p k)) (listed (alone p k) (alone-accepted p k e h) .placed)
 
   added-short : length (entryLines (added p k segmentNumbers)) ≤ 29 * 2049
   unfolding added
   added-short =
-      let es = entries finest (alone p k) in
-      let n = 2 ^ finest * k in
-      let far : n ≤ 131072 = omega (arith, accepted-lawful finest p e .most) in
+      let es = entries (alone p k) in
+      let n = 2048 * k in
+      let far : n ≤ 131072 = omega (arith, accepted-lawful p e .most) in
       rw (segment-whole p k segmentNumbers e h (omega arith))
       (omega (arith, lines-joined k (map (shifted n) es), lines-short n es far segment-bounded, segment-few p k e h))
 
@@ -136,12 +138,11 @@ path-line-short i d a b c =
       named-short lengthWord (d .length) 9 (omega arith) c,
     ))
 
-heading-short : (k i : ℕ) (p : Path) → pathRefusal finest p ≡ 0 → i < 1024 → length (heading k i p) ≤ 41
+heading-short : (k i : ℕ) (p : Path) → pathRefusal p ≡ 0 → i < 1024 → length (heading k i p) ≤ 41
 unfolding measured
 heading-short zero i p e h =
-    let o = listed finest p fine e in
-    let few = accepted-lawful finest p e .most in
-    rw e (path-line-short i _ (omega arith) (omega (arith, o .count)) (omega (arith, o .total)))
+    let most = at-most p e in
+    rw e (path-line-short i _ (omega arith) (omega (arith, most .points)) (omega (arith, most .total)))
 heading-short (suc k) i p e h = omega arith
 
 -- the piece at q fits a text of 65,536 bytes
@@ -153,7 +154,7 @@ unfolding pieceText
 piece-short l q h =
     let p = pathIn l (q .at) in
     rw length-append
-    (omega (arith, heading-short (q .segment) (q .path) p (h .0) (h .2), added-short p (q .segment) (h .0) (h .1)))
+    (omega (arith, heading-short (q .segment) (q .path) p (h .0) (h .2), added-short l (q .at) (q .segment) (h .0) (h .1)))
 
 pub pieces-short : (l : List ℤ) (qs : List Place) → All (Inside l) qs → All (Short l) qs
 pieces-short l [] h = tt

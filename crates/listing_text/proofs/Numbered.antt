@@ -1,4 +1,5 @@
--- Path i of an accepted sheet, which has i paths before it, is listed as number i, from its own start level and under the sheet's limits.
+-- Path i of an accepted sheet, which has i paths before it, is listed as number i, at finest level 11, from its own start level and under the
+-- sheet's limits.
 use mathlib.Core.Path.{_≡_, ap, ap₂, _∙_}
 use mathlib.Core.List.{List, [], _∷_, _++_, append-assoc}
 use Prim.Native.Nat.{ℕ, suc, _+_}
@@ -22,7 +23,7 @@ paths-append s i (t ∷ ts) us =
 pub path-listed : (b : List ℕ) → sheetRefusal b ≡ 0 → let s = sheetAt b in
     (before : List Target) (t : Target) (after : List Target) → s .paths ≡ before ++ t ∷ after
     → listing b ≡ pathsLine (length before + 1 + length after) ++ (pathsText s 0 before
-    ++ (pathText (length before) (record { points = t .points; segments = t .segments; level = t .level; upper = s .upper; lower = s .lower })
+    ++ (pathText (length before) (record { points = t .points; segments = t .segments; finest = 11; level = t .level; upper = s .upper; lower = s .lower })
     ++ pathsText s (length before + 1) after))
 unfolding listing sheetText pathsText
 path-listed b e before t after f =

@@ -11,7 +11,7 @@ use lib.ListN.{length, length-append}
 use borrow.Author.Tests.{lt-ltb, le-ltb}
 use Rattle.numbers.specs.Tables.{All}
 use Rattle.numbers.proofs.Tables.{all-append}
-use Rattle.rules.specs.Rules.{finest, areLimits}
+use Rattle.rules.specs.Rules.{areLimits}
 use Rattle.rules.proofs.Refusals.{first-kept}
 use Rattle.path.specs.Path.{Path, pathRefusal}
 use Rattle.path.proofs.Accepted.{accepted-lawful}
@@ -29,7 +29,7 @@ use Rattle.listing_text.proofs.Fits.{Inside}
 
 abbrev pub Accepted : List ℤ → ℕ → ℕ → Type 0
 Accepted l zero at = Unit
-Accepted l (suc n) at = (pathRefusal finest (pathIn l at) ≡ 0) × (pathEnd l at ≤ length l) × Accepted l n (pathEnd l at)
+Accepted l (suc n) at = (pathRefusal (pathIn l at) ≡ 0) × (pathEnd l at ≤ length l) × Accepted l n (pathEnd l at)
 
 pub paths-accepted : (l : List ℤ) (n at : ℕ) → areLimits (numberAt l 1) (numberAt l 2) ≡ true → at ≤ length l → pathsRefusal l n at ≡ 0
     → Accepted l n at
@@ -43,9 +43,9 @@ paths-accepted l (suc n) at limits h e =
       paths-accepted l n (pathEnd l at) limits inside (kept .1),
     )
 
-some-segments : (l : List ℤ) (at : ℕ) → pathRefusal finest (pathIn l at) ≡ 0 → 0 < numberAt l at
+some-segments : (l : List ℤ) (at : ℕ) → pathRefusal (pathIn l at) ≡ 0 → 0 < numberAt l at
 unfolding pathAt
-some-segments l at e = accepted-lawful finest (pathIn l at) e .some
+some-segments l at e = accepted-lawful (pathIn l at) e .some
 
 -- ---- their places
 
@@ -102,7 +102,7 @@ paths-visited l N (suc n) i at e a =
 
 -- ---- each stands inside an accepted path
 
-segments-inside : (l : List ℤ) (i at : ℕ) → pathRefusal finest (pathIn l at) ≡ 0 → i < 1024
+segments-inside : (l : List ℤ) (i at : ℕ) → pathRefusal (pathIn l at) ≡ 0 → i < 1024
     → (m k : ℕ) → k + m ≤ numberAt l at → All (Inside l) (segmentPlaces i at k m)
 unfolding segmentPlaces pathAt
 segments-inside l i at e b zero k h = tt
@@ -127,7 +127,7 @@ pub places-few : (l : List ℤ) (n i at : ℕ) → Accepted l n at → length (p
 unfolding pathPlaces pathAt
 places-few l zero i at a = omega arith
 places-few l (suc n) i at a =
-    let most = accepted-lawful finest (pathIn l at) (a .0) .most in
+    let most = accepted-lawful (pathIn l at) (a .0) .most in
     rw (length-append, segments-few) (omega (arith, most, places-few l n (i + 1) (pathEnd l at) (a .2)))
 
 -- ---- their text
@@ -148,7 +148,7 @@ segments-text l room i at zero k = append-assoc (heading k i (pathIn l at)) _ []
 segments-text l room i at (suc m) k =
     rw (segments-text l room i at m (k + 1), no-heading k i (pathIn l at)) (append-assoc (heading k i (pathIn l at)) _ _)
 
-path-text : (l : List ℤ) (room i at : ℕ) → pathRefusal finest (pathIn l at) ≡ 0 → segmentNumbers ≤ room
+path-text : (l : List ℤ) (room i at : ℕ) → pathRefusal (pathIn l at) ≡ 0 → segmentNumbers ≤ room
     → piecesText l room (segmentPlaces i at 0 (numberAt l at)) ≡ pathText i (pathIn l at)
 unfolding pathText pathAt
 path-text l room i at e r = rw (path-lines (pathIn l at) room e r) (by-segments (numberAt l at) (some-segments l at e))

@@ -2,8 +2,10 @@
 use mathlib.Core.List.{List, [], _∷_, _++_}
 use Prim.Native.Nat.{ℕ, _+_}
 use lib.ListN.{length}
+use Rattle.rules.specs.declared.Limits.{Limits}
 use Rattle.rules.specs.Refusals.{refusalOr}
-use Rattle.rules.specs.Rules.{finest}
+use Rattle.rules.specs.Rules.{sheetFinest}
+use Rattle.path.specs.declared.Shape.{Shape}
 use Rattle.path.specs.Path.{Path, path}
 use Rattle.path.specs.Entries.{entries}
 use Rattle.path.specs.Answer.{measured}
@@ -12,12 +14,18 @@ use Rattle.sheet.specs.Records.{sheetAt}
 use Rattle.sheet.specs.Reading.{sheetRefusal}
 use Rattle.listing_text.specs.Lines.{pathsLine, pathLine, entryLines, refusedLine}
 
--- a path of a sheet, under the sheet's limits
+-- a path of a sheet, at the finest level of every sheet's paths and under the sheet's limits
+abbrev pub shapeOf : Target → Shape
+shapeOf t = record { segments = t .segments; finest = sheetFinest; level = t .level }
+
+abbrev pub limitsOf : Sheet → Limits
+limitsOf s = record { upper = s .upper; lower = s .lower }
+
 abbrev pub pathOf : Sheet → Target → Path
-pathOf s t = path (t .points) (t .segments) (t .level) (s .upper) (s .lower)
+pathOf s t = path (t .points) (shapeOf t) (limitsOf s)
 
 unfoldable pub pathText : ℕ → Path → List ℕ
-pathText i p = pathLine i (measured finest p) ++ entryLines (entries finest p)
+pathText i p = pathLine i (measured p) ++ entryLines (entries p)
 
 -- paths of s, the first of them path i
 unfoldable pub pathsText : Sheet → ℕ → List Target → List ℕ

@@ -8,7 +8,7 @@ use lib.Dec.{ltb}
 use lib.IntN.{ℤ}
 use lib.ListN.{length}
 use Rattle.rules.specs.Refusals.{refusalOr}
-use Rattle.rules.specs.Rules.{finest}
+use Rattle.rules.specs.Rules.{sheetFinest}
 use Rattle.entries.specs.declared.Entry.{Entry}
 use Rattle.entries.specs.Entries.{entrySize, entriesIn}
 use Rattle.path.specs.Path.{Path}
@@ -31,13 +31,16 @@ segmentAt l q = alone (pathIn l (q .at)) (q .segment)
 
 -- ---- the entries of a segment
 
--- the numbers of a segment's list: it has at most 2^F + 1 entries
+-- numbers enough for a segment's list: at finest level F it has at most 2^F + 1 entries
+abbrev pub segmentRoom : ℕ → ℕ
+segmentRoom F = entrySize * (2 ^ F + 1)
+
 abbrev pub segmentNumbers : ℕ
-segmentNumbers = entrySize * (2 ^ finest + 1)
+segmentNumbers = segmentRoom sheetFinest
 
 -- a segment's list by itself, as far as it can be drawn into a list of `room` numbers
 unfoldable pub segmentEntries : Path → ℕ → ℕ → List Entry
-segmentEntries p k room = refusalOr (drawRefusal finest (alone p k) room) (λ _. []) (entries finest (alone p k))
+segmentEntries p k room = refusalOr (drawRefusal (alone p k) room) (λ _. []) (entries (alone p k))
 
 -- without its start, but for the first segment
 abbrev pub joining : ℕ → List Entry → List Entry
@@ -46,13 +49,13 @@ joining (suc k) es = tail es
 
 -- what segment k adds to the path's list
 unfoldable pub added : Path → ℕ → ℕ → List Entry
-added p k room = joining k (map (shifted (2 ^ finest * k)) (segmentEntries p k room))
+added p k room = joining k (map (shifted (2 ^ p .finest * k)) (segmentEntries p k room))
 
 -- ---- the text
 
--- entries `from` to `count` of a list of numbers, as those of segment k
+-- entries `from` to `count` of a list of numbers, as those of segment k of a sheet's path
 abbrev pub linesIn : List ℤ → ℕ → ℕ → ℕ → List ℕ
-linesIn list from count k = entryLines (map (shifted (2 ^ finest * k)) (entriesIn list from (count - from)))
+linesIn list from count k = entryLines (map (shifted (2 ^ sheetFinest * k)) (entriesIn list from (count - from)))
 
 -- no piece is longer
 abbrev pub textSize : ℕ
@@ -60,7 +63,7 @@ textSize = 65536
 
 -- the path's line before its first segment
 abbrev pub heading : ℕ → ℕ → Path → List ℕ
-heading zero i p = pathLine i (measured finest p)
+heading zero i p = pathLine i (measured p)
 heading (suc k) i p = []
 
 abbrev pub headingAt : List ℤ → Place → List ℕ

@@ -1,7 +1,7 @@
 // What a listing is: its lines, and the pieces that it is printed in. There is no code here.
 
-// A segment has at most 2^FINEST + 1 entries: the numbers of its list.
-pub const SEGMENT_NUMBERS: usize = entries::ENTRY_SIZE * ((1 << rules::FINEST) + 1);
+// A segment has at most 2^SHEET_FINEST + 1 entries: the numbers of its list.
+pub const SEGMENT_NUMBERS: usize = entries::ENTRY_SIZE * ((1 << rules::SHEET_FINEST) + 1);
 
 // What was printed: by what number the sheet is refused, 0 for none; how many bytes its listing has; and whether standard output took them all.
 pub struct Output {
