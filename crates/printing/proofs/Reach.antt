@@ -1,5 +1,5 @@
 -- Parts of a list that are cut where the list ends: what is read of a number list that may be too short.
-use mathlib.Core.Path.{_≡_, refl, sym, ap, _∙_}
+use mathlib.Core.Path.{_≡_, sym, _∙_}
 use mathlib.Core.Bool.{true, false}
 use mathlib.Core.List.{List}
 use Prim.Native.Nat.{ℕ, _+_, _*_, _-_, _≤_, _<_, min}
@@ -10,12 +10,15 @@ use lib.Dec.{leb}
 use lib.ListN.{length, take, drop, length-drop, drop-of-length-le}
 use lib.IntN.{ℤ}
 use lib.Seq.{take-all, take-nil}
+use Rattle.rules.specs.declared.Limits.{Limits}
 use Rattle.rules.specs.Rules.{degree, coordinates, pointNumbers}
-use Rattle.path.specs.Path.{Path, path}
+use Rattle.path.specs.declared.Shape.{Shape}
+use Rattle.path.specs.Path.{path}
 use Rattle.path.specs.Joined.{alone}
 use Rattle.path.proofs.Turns.{by-test}
 use Rattle.sheet.specs.Sheet.{pathHead}
 use Rattle.sheet.specs.NumberList.{numberAt, pathAt, pathEnd, sheetOf}
+use Rattle.listing_text.specs.Listing.{shapeOf, limitsOf}
 use Rattle.listing_text.specs.Pieces.{pathIn}
 
 cut : (a m : ℕ) → m ≤ a → min a m ≡ m
@@ -60,30 +63,23 @@ module _ {A : Type 0} (l : List A) (a n : ℕ) where
 
 -- ---- what the code cuts out of a number list
 
--- the points of segment k of a path's points
-pub segment-part : (points : List ℤ) (k level upper lower from to : ℕ)
+-- segment k of a path
+pub segment-part : (points : List ℤ) (shape : Shape) (limits : Limits) (k from to : ℕ)
     → from ≡ min (coordinates * (degree * k)) (length points) → to ≡ min (from + coordinates * (degree + 1)) (length points)
-    → path (take (to - from) (drop from points)) 1 level upper lower ≡ alone (path points 1 level upper lower) k
+    → path (take (to - from) (drop from points)) (record { segments = 1; finest = shape .finest; level = shape .level }) limits
+    ≡ alone (path points shape limits) k
 unfolding alone
-segment-part points k level upper lower from to f t =
+segment-part points shape limits k from to f t =
     let start = coordinates * (degree * k) in
     let size = coordinates * (degree + 1) in
     rw (t, f, cut-again start size (length points), part-reached points start size)
 
--- the path whose numbers start at `at`, by the numbers read one by one
+-- the path whose numbers start at `at`, by its points, its shape and the limits as they are read
 module _ (l : List ℤ) (at : ℕ) {from to : ℕ} (f : from ≡ min (at + pathHead) (length l)) (t : to ≡ min (pathEnd l at) (length l)) where
   points-read : take (to - from) (drop from l) ≡ pathAt l at .points
   unfolding pathAt
   points-read = rw (t, f, part-reached l (at + pathHead) (pointNumbers (numberAt l at)))
 
-  pub path-by-numbers : {S level upper lower : ℕ}
-      → S ≡ numberAt l at → level ≡ numberAt l (at + 1) → upper ≡ numberAt l 1 → lower ≡ numberAt l 2
-      → path (take (to - from) (drop from l)) S level upper lower ≡ pathIn l at
-  unfolding pathAt sheetOf
-  path-by-numbers s n u o = rw (points-read, s, n, u, o)
-
-  -- a segment of it, for which the number of segments does not matter
-  pub segment-by-numbers : (k : ℕ) {level upper lower : ℕ} → level ≡ numberAt l (at + 1) → upper ≡ numberAt l 1 → lower ≡ numberAt l 2
-      → alone (path (take (to - from) (drop from l)) 1 level upper lower) k ≡ alone (pathIn l at) k
-  unfolding alone
-  segment-by-numbers k n u o = ap (λ (p : Path). alone p k) (path-by-numbers refl n u o)
+  pub path-by-numbers : {shape : Shape} {limits : Limits} → shape ≡ shapeOf (pathAt l at) → limits ≡ limitsOf (sheetOf l)
+      → path (take (to - from) (drop from l)) shape limits ≡ pathIn l at
+  path-by-numbers s o = rw (points-read, s, o)

@@ -4,7 +4,7 @@ ghost use mathlib.Core.List.{_++_};
 ghost use Prim.Native.Nat.{_*_, _^_, _≤_};
 ghost use lib.ListN.{length};
 ghost use lib.Seq.{sets};
-ghost use Rattle.rules.specs.Rules.{finest};
+ghost use Rattle.rules.specs.Rules.{sheetFinest};
 ghost use Rattle.entries.specs.Entries.{entrySize};
 ghost use Rattle.path.specs.Joined.{shifted};
 ghost use Rattle.text.specs.Reached.{reached};
@@ -13,10 +13,10 @@ ghost use Rattle.listing_text.specs.Pieces.{linesIn};
 use entries::Entry;
 use entries::Found;
 use path::Drawn;
-use rules::FINEST;
+use rules::SHEET_FINEST;
 
 // A segment starts so many positions after the one before.
-const END: i64 = 1 << FINEST;
+const END: i64 = 1 << SHEET_FINEST;
 
 // A line of one word and its number, from the front of `text` on.
 pub(crate) fn put_line(word: &[u8], n: u32, text: &mut [u8]) -> usize
@@ -66,8 +66,8 @@ pub(crate) fn put_entries(
 
 // An entry of segment k at its place on the path.
 fn put_entry(e: Entry, k: u32, text: &mut [u8], at: usize) -> usize
-    ensures { λ r. ⌜ r ≡ reached (now (text .entry)) at (entryLine (shifted (2 ^ finest * k) e)) ⌝ }
-    ensures { λ _. ⌜ now (text .exit) ≡ sets (now (text .entry)) at (entryLine (shifted (2 ^ finest * k) e)) ⌝ }
+    ensures { λ r. ⌜ r ≡ reached (now (text .entry)) at (entryLine (shifted (2 ^ sheetFinest * k) e)) ⌝ }
+    ensures { λ _. ⌜ now (text .exit) ≡ sets (now (text .entry)) at (entryLine (shifted (2 ^ sheetFinest * k) e)) ⌝ }
 {
     let position = position_of(e, k);
     let x = e.x as i64;
@@ -80,7 +80,7 @@ fn put_entry(e: Entry, k: u32, text: &mut [u8], at: usize) -> usize
 }
 
 fn position_of(e: Entry, k: u32) -> i64
-    ensures { λ r. ⌜ r ≡ shifted (2 ^ finest * k) e .position ⌝ }
+    ensures { λ r. ⌜ r ≡ shifted (2 ^ sheetFinest * k) e .position ⌝ }
 {
     e.position as i64 + END * k as i64
 }

@@ -3,21 +3,24 @@ ghost use mathlib.Core.Path.{_≡_};
 ghost use Prim.Native.Nat.{_+_, _≤_, _<_, min};
 ghost use lib.ListN.{length};
 ghost use lib.Seq.{sets};
-ghost use Rattle.rules.specs.Rules.{finest};
 ghost use Rattle.path.specs.Path.{path};
 ghost use Rattle.path.specs.Joined.{alone};
 ghost use Rattle.path.specs.Answer.{drawn, written};
 ghost use Rattle.sheet.specs.Sheet.{mostNumbers, pathHead};
-ghost use Rattle.sheet.specs.NumberList.{numberAt, pathEnd};
+ghost use Rattle.sheet.specs.NumberList.{numberAt, pathAt, pathEnd, sheetOf};
 ghost use Rattle.text.specs.Reached.{reached};
+ghost use Rattle.listing_text.specs.Listing.{shapeOf, limitsOf};
 ghost use Rattle.listing_text.specs.Pieces.{segmentAt, headingAt, pieceText, nextPlace};
 use crate::lines::path_line;
 use crate::lines::put_entries;
 use listing_text::Piece;
 use listing_text::Place;
 use path::Drawn;
+use path::Shape;
 use rules::COORDINATES;
 use rules::DEGREE;
+use rules::Limits;
+use rules::SHEET_FINEST;
 use sheet::PATH_HEAD;
 
 // The piece at a place, from the front of `text` on. The segment's entries are drawn into `list`.
@@ -26,7 +29,7 @@ pub(crate) fn piece_at(numbers: &[i32], place: Place, list: &mut [i32], text: &m
     ensures { λ r. ⌜ r .count ≡ reached (now (text .entry)) 0 (pieceText (now (numbers .entry)) place (length (now (list .entry)))) ⌝ }
     ensures { λ r. ⌜ r .next ≡ nextPlace (now (numbers .entry)) place ⌝ }
     ensures { λ _. ⌜ now (text .exit) ≡ sets (now (text .entry)) 0 (pieceText (now (numbers .entry)) place (length (now (list .entry)))) ⌝ }
-    ensures { λ _. ⌜ now (list .exit) ≡ written finest (segmentAt (now (numbers .entry)) place) (now (list .entry)) ⌝ }
+    ensures { λ _. ⌜ now (list .exit) ≡ written (segmentAt (now (numbers .entry)) place) (now (list .entry)) ⌝ }
 {
     let segment = place.segment;
     let at = put_heading(numbers, place, text);
@@ -60,10 +63,8 @@ fn put_heading(numbers: &[i32], place: Place, text: &mut [u8]) -> usize
     let to = points_end(numbers, at);
     let whole = drawer::measure(
         &numbers[from..to],
-        number_at(numbers, at),
-        number_at(numbers, at + 1),
-        number_at(numbers, 1),
-        number_at(numbers, 2),
+        shape_at(numbers, at),
+        limits_of(numbers),
     );
     path_line(path, whole, text)
 }
@@ -71,28 +72,32 @@ fn put_heading(numbers: &[i32], place: Place, text: &mut [u8]) -> usize
 // Draws the segment at a place as a path of its own.
 fn draw_segment(numbers: &[i32], place: Place, list: &mut [i32]) -> Drawn
     requires { ⌜ (place .at ≤ length (now numbers)) × (length (now numbers) ≤ mostNumbers) ⌝ }
-    ensures { λ r. ⌜ r ≡ drawn finest (segmentAt (now (numbers .entry)) place) (length (now (list .entry))) ⌝ }
-    ensures { λ _. ⌜ now (list .exit) ≡ written finest (segmentAt (now (numbers .entry)) place) (now (list .entry)) ⌝ }
+    ensures { λ r. ⌜ r ≡ drawn (segmentAt (now (numbers .entry)) place) (length (now (list .entry))) ⌝ }
+    ensures { λ _. ⌜ now (list .exit) ≡ written (segmentAt (now (numbers .entry)) place) (now (list .entry)) ⌝ }
 {
     let segment = place.segment;
     let at = place.at;
     let from = points_start(numbers, at);
     let to = points_end(numbers, at);
-    let level = number_at(numbers, at + 1);
-    let upper = number_at(numbers, 1);
-    let lower = number_at(numbers, 2);
-    draw_alone(&numbers[from..to], segment, level, upper, lower, list)
+    let shape = shape_at(numbers, at);
+    let limits = limits_of(numbers);
+    draw_alone(&numbers[from..to], shape, limits, segment, list)
 }
 
-// Draws segment k of a path's points.
-fn draw_alone(points: &[i32], k: u32, level: u32, upper: u32, lower: u32, list: &mut [i32]) -> Drawn
+// Draws segment k of a path.
+fn draw_alone(points: &[i32], shape: Shape, limits: Limits, k: u32, list: &mut [i32]) -> Drawn
     requires { ⌜ length (now points) ≤ mostNumbers ⌝ }
-    ensures { λ r. ⌜ r ≡ drawn finest (alone (path (now (points .entry)) 1 level upper lower) k) (length (now (list .entry))) ⌝ }
-    ensures { λ _. ⌜ now (list .exit) ≡ written finest (alone (path (now (points .entry)) 1 level upper lower) k) (now (list .entry)) ⌝ }
+    ensures { λ r. ⌜ r ≡ drawn (alone (path (now (points .entry)) shape limits) k) (length (now (list .entry))) ⌝ }
+    ensures { λ _. ⌜ now (list .exit) ≡ written (alone (path (now (points .entry)) shape limits) k) (now (list .entry)) ⌝ }
 {
     let from = least(COORDINATES * (DEGREE * k as usize), points.len());
     let to = least(from + COORDINATES * (DEGREE + 1), points.len());
-    drawer::draw(&points[from..to], 1, level, upper, lower, list)
+    let one = Shape {
+        segments: 1,
+        finest: shape.finest,
+        level: shape.level,
+    };
+    drawer::draw(&points[from..to], one, limits, list)
 }
 
 // The next segment of the path, or the next path.
@@ -129,6 +134,27 @@ pub(crate) fn number_at(numbers: &[i32], i: usize) -> u32
         return rules::natural(numbers[i]);
     }
     0
+}
+
+// How the path at `at` is drawn, and the limits of every path.
+fn shape_at(numbers: &[i32], at: usize) -> Shape
+    requires { ⌜ (at ≤ length (now numbers)) × (length (now numbers) ≤ mostNumbers) ⌝ }
+    ensures { λ r. ⌜ r ≡ shapeOf (pathAt (now (numbers .entry)) at) ⌝ }
+{
+    Shape {
+        segments: number_at(numbers, at),
+        finest: SHEET_FINEST,
+        level: number_at(numbers, at + 1),
+    }
+}
+
+fn limits_of(numbers: &[i32]) -> Limits
+    ensures { λ r. ⌜ r ≡ limitsOf (sheetOf (now (numbers .entry))) ⌝ }
+{
+    Limits {
+        upper: number_at(numbers, 1),
+        lower: number_at(numbers, 2),
+    }
 }
 
 // Where the points of the path at `at` start and end, as far as the list reaches.

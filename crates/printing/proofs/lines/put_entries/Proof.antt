@@ -5,7 +5,7 @@ use Prim.Native.Nat.{ℕ, suc, _+_, _-_, _*_, _^_, _≤_, _<_}
 use lib.ListN.{length}
 use native.Mathlib.Omega.{arith}
 use lib.IntN.{ℤ}
-use Rattle.rules.specs.Rules.{finest}
+use Rattle.rules.specs.Rules.{sheetFinest}
 use Rattle.entries.specs.declared.Entry.{Entry}
 use Rattle.entries.specs.Entries.{entrySize, entryOf, entriesIn}
 use Rattle.entries.proofs.Numbers.{here-is, never-outside}
@@ -18,23 +18,23 @@ use Rattle.printing.proofs.lines.put_entries.Statement.{statement}
 use Rattle.printing.proofs.lines.put_entries.Tie as tie
 
 lines-more : (l : List ℤ) (i count k : ℕ) → i < count
-    → linesIn l i count k ≡ entryLine (shifted (2 ^ finest * k) (entryOf l i)) ++ linesIn l (i + 1) count k
+    → linesIn l i count k ≡ entryLine (shifted (2 ^ sheetFinest * k) (entryOf l i)) ++ linesIn l (i + 1) count k
 unfolding entryLines entriesIn
 lines-more l i count k h =
     let n : count - i ≡ suc (count - (i + 1)) = omega arith in
-    ap (λ (m : ℕ). entryLines (map (shifted (2 ^ finest * k)) (entriesIn l i m))) n
+    ap (λ (m : ℕ). entryLines (map (shifted (2 ^ sheetFinest * k)) (entriesIn l i m))) n
 
 lines-end : (l : List ℤ) (i count k : ℕ) → count ≤ i → linesIn l i count k ≡ []
 unfolding entryLines entriesIn
 lines-end l i count k h =
     let n : count - i ≡ 0 = omega arith in
-    ap (λ (m : ℕ). entryLines (map (shifted (2 ^ finest * k)) (entriesIn l i m))) n
+    ap (λ (m : ℕ). entryLines (map (shifted (2 ^ sheetFinest * k)) (entriesIn l i m))) n
 
 module _ (l : List ℤ) (k : ℕ) {n count i at : ℕ} {t t₀ all : List ℕ} (g : Gathered t i (linesIn l n count k) t₀ at all) where
-  one-more : {e : Entry} {u : List ℕ} {j : ℕ} → n < count → e ≡ entryOf l n → Put t i (entryLine (shifted (2 ^ finest * k) e)) j u
+  one-more : {e : Entry} {u : List ℕ} {j : ℕ} → n < count → e ≡ entryOf l n → Put t i (entryLine (shifted (2 ^ sheetFinest * k) e)) j u
       → Gathered u j (linesIn l (n + 1) count k) t₀ at all
   one-more {u = u} {j} h e p =
-      let line = subst (λ f. Put t i (entryLine (shifted (2 ^ finest * k) f)) j u) e p in
+      let line = subst (λ f. Put t i (entryLine (shifted (2 ^ sheetFinest * k) f)) j u) e p in
       gathered-more _ _ (subst (λ rest. Gathered t i rest t₀ at all) (lines-more l n count k h) g) line
 
   all-put : count ≤ n → Put t₀ at all i t

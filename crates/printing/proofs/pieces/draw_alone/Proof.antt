@@ -49,7 +49,7 @@ returns c =
     let d = c .before in
     let a = d .before .before .before .before .before .args in
     let to = d .before .before .before in
-    let same = segment-part (a .points .now) (a .k) (a .level) (a .upper) (a .lower) _ _ (to .before .least .ensures) (to .least2 .ensures) in
+    let same = segment-part (a .points .now) (a .shape) (a .limits) (a .k) _ _ (to .before .least .ensures) (to .least2 .ensures) in
     drawn-same (a .list .now) same (d .draw .ensures .0) (d .draw .ensures .1)
 
 pub draw-alone-spec : {M : Type 1} → statement M

@@ -1,6 +1,9 @@
 -- The numbers of the path are read where they stand, and its points as far as the list reaches.
+use mathlib.Core.Path.{ap}
+use Rattle.path.specs.Path.{Path}
+use Rattle.path.specs.Joined.{alone}
 use Rattle.listing_text.proofs.Drawn.{drawn-same}
-use Rattle.printing.proofs.Reach.{segment-by-numbers}
+use Rattle.printing.proofs.Reach.{path-by-numbers}
 use borrow.Author.Needs.{needs}
 use Rattle.printing.proofs.pieces.draw_segment.Statement.{statement}
 use Rattle.printing.proofs.pieces.draw_segment.Tie as tie
@@ -11,17 +14,11 @@ points-start-requires c κs = search needs
 points-end-requires : tie.Need-points-end-requires
 points-end-requires c κs = search needs
 
-add-number-at : tie.Need-add-number-at
-add-number-at c = search needs
+shape-at-requires : tie.Need-shape-at-requires
+shape-at-requires c κs = search needs
 
-number-at-requires : tie.Need-number-at-requires
-number-at-requires c κs = search needs
-
-number-at-requires-2 : tie.Need-number-at-requires-2
-number-at-requires-2 c κs = search needs
-
-number-at-requires-3 : tie.Need-number-at-requires-3
-number-at-requires-3 c κs = search needs
+limits-of-requires : tie.Need-limits-of-requires
+limits-of-requires c κs = search needs
 
 mul-draw-alone : tie.Need-mul-draw-alone
 mul-draw-alone c = search needs
@@ -44,15 +41,13 @@ same-length c = search needs
 returns : tie.Need-returns
 returns c =
     let d = c .before in
-    let lower = d .before .before .before in
-    let upper = lower .before in
-    let level = upper .before in
-    let to = level .before in
+    let limits = d .before .before .before in
+    let shape = limits .before in
+    let to = shape .before in
     let a = to .before .before .args in
-    let same =
-    segment-by-numbers (a .numbers .now) (a .place .at) (to .before .points-start .ensures)
-    (to .points-end .ensures) (a .place .segment) (level .number-at .ensures) (upper .number-at2 .ensures) (lower .number-at3 .ensures) in
-    drawn-same (a .list .now) same (d .draw-alone .ensures .0) (d .draw-alone .ensures .1)
+    let found = path-by-numbers (a .numbers .now) (a .place .at) (to .before .points-start .ensures) (to .points-end .ensures) in
+    let same = found (shape .shape-at .ensures) (limits .limits-of .ensures) in
+    drawn-same (a .list .now) (ap (λ (p : Path). alone p (a .place .segment)) same) (d .draw-alone .ensures .0) (d .draw-alone .ensures .1)
 
 pub draw-segment-spec : {M : Type 1} → statement M
 draw-segment-spec =
@@ -60,10 +55,8 @@ draw-segment-spec =
     (tie.spec
     points-start-requires
     points-end-requires
-    add-number-at
-    number-at-requires
-    number-at-requires-2
-    number-at-requires-3
+    shape-at-requires
+    limits-of-requires
     mul-draw-alone
     sub-draw-alone
     part-draw-alone-start

@@ -6,7 +6,6 @@ use native.Mathlib.Omega.{arith}
 use lib.IntN.{ℤ}
 use lib.ListN.{length}
 use lib.Seq.{length-sets}
-use Rattle.rules.specs.Rules.{finest}
 use Rattle.entries.specs.Entries.{entrySize}
 use Rattle.path.specs.declared.Drawn.{Drawn}
 use Rattle.path.specs.Answer.{drawn, written}
@@ -21,7 +20,7 @@ use Rattle.printing.proofs.pieces.piece_at.Tie as tie
 
 -- `d` and `after`: what drawing the segment answers and leaves in the list
 module _ (l : List ℤ) (q : Place) (list : List ℤ) {d : Drawn} {after : List ℤ}
-    (e : d ≡ drawn finest (segmentAt l q) (length list)) (f : after ≡ written finest (segmentAt l q) list)
+    (e : d ≡ drawn (segmentAt l q) (length list)) (f : after ≡ written (segmentAt l q) list)
   where
     entries-inside : entrySize * d .points ≤ length after
     entries-inside = rw (e, f) (segment-inside (pathIn l (q .at)) (q .segment) list)

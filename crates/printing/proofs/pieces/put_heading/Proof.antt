@@ -3,7 +3,6 @@ use mathlib.Core.Path.{_≡_, refl, sym, ap, _∙_}
 use mathlib.Core.List.{[]}
 use Prim.Native.Nat.{ℕ, zero, suc}
 use native.Mathlib.Omega.{arith}
-use Rattle.rules.specs.Rules.{finest}
 use Rattle.path.specs.Path.{Path}
 use Rattle.path.specs.Answer.{measured}
 use Rattle.text.specs.Reached.{reached}
@@ -15,7 +14,7 @@ use borrow.Author.Needs.{needs}
 use Rattle.printing.proofs.pieces.put_heading.Statement.{statement}
 use Rattle.printing.proofs.pieces.put_heading.Tie as tie
 
-heading-first : {k : ℕ} (i : ℕ) (p : Path) → k ≡ 0 → pathLine i (measured finest p) ≡ heading k i p
+heading-first : {k : ℕ} (i : ℕ) (p : Path) → k ≡ 0 → pathLine i (measured p) ≡ heading k i p
 heading-first {k} i p e = sym (ap (λ (n : ℕ). heading n i p) e)
 
 heading-none : (k i : ℕ) (p : Path) → (k ≡ 0 → ⊥) → [] ≡ heading k i p
@@ -44,20 +43,11 @@ part-measure-start c = search needs
 part-measure-end : tie.Need-part-measure-end
 part-measure-end c = search needs
 
-number-at-requires : tie.Need-number-at-requires
-number-at-requires c κs = search needs
+shape-at-requires : tie.Need-shape-at-requires
+shape-at-requires c κs = search needs
 
-add-number-at : tie.Need-add-number-at
-add-number-at c = search needs
-
-number-at-requires-2 : tie.Need-number-at-requires-2
-number-at-requires-2 c κs = search needs
-
-number-at-requires-3 : tie.Need-number-at-requires-3
-number-at-requires-3 c κs = search needs
-
-number-at-requires-4 : tie.Need-number-at-requires-4
-number-at-requires-4 c κs = search needs
+limits-of-requires : tie.Need-limits-of-requires
+limits-of-requires c κs = search needs
 
 measure-requires : tie.Need-measure-requires
 measure-requires c κs = search needs
@@ -72,16 +62,14 @@ returns-2 : tie.Need-returns-2
 returns-2 c =
     let line = c .before .before in
     let whole = line .before .before in
-    let lower = whole .before in
-    let upper = lower .before in
-    let level = upper .before in
-    let segments = level .before in
-    let to = segments .before .before in
+    let limits = whole .before in
+    let shape = limits .before in
+    let to = shape .before .before in
     let other = to .before .before in
     let a = other .before .before .before .args in
     let found = path-by-numbers (a .numbers .now) (a .place .at) (to .before .points-start .ensures) (to .points-end .ensures) in
-    let p = found (segments .number-at .ensures) (level .number-at2 .ensures) (upper .number-at3 .ensures) (lower .number-at4 .ensures) in
-    let measured-whole = ap (pathLine (a .place .path)) (whole .measure .ensures ∙ ap (measured finest) p) in
+    let p = found (shape .shape-at .ensures) (limits .limits-of .ensures) in
+    let measured-whole = ap (pathLine (a .place .path)) (whole .measure .ensures ∙ ap measured p) in
     put-as _ _ (measured-whole ∙ heading-first _ _ (other .if1 .left)) (line .path-line .ensures)
 
 pub put-heading-spec : {M : Type 1} → statement M
@@ -95,11 +83,8 @@ put-heading-spec =
     sub-measure
     part-measure-start
     part-measure-end
-    number-at-requires
-    add-number-at
-    number-at-requires-2
-    number-at-requires-3
-    number-at-requires-4
+    shape-at-requires
+    limits-of-requires
     measure-requires
     path-line-requires
     same-length
