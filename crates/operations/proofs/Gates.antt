@@ -2,7 +2,7 @@
 use mathlib.Core.Path.{_≡_, sym, ap, _∙_}
 use mathlib.Core.Bool.{true, _&&_}
 use Prim.Native.Nat.{ℕ, _+_, _-_, _*_, _%_, _^_, _≤_}
-use native.Mathlib.Nat.{sub-le}
+use native.Mathlib.Nat.{sub-le, le-trans}
 use native.Mathlib.Omega.{arith}
 use lib.Dec.{leb, ltb, eqb}
 use lib.Pow.{pow-add, pow-mono}
@@ -50,6 +50,10 @@ opens F n q e =
 pub call-opens : (F : ℕ) (op : Operation) (n q : ℕ) → callRefusal F op n q ≡ 0 → Open F n q × (ownRefusal F op n q ≡ 0)
 unfolding callRefusal
 call-opens F op n q e = let f = first-kept (gate F n q) (ownRefusal F op n q) e in (opens F n q (f .0), f .1)
+
+-- so that what is shifted by the level stays small
+pub call-low : (F : ℕ) (op : Operation) (n q : ℕ) → callRefusal F op n q ≡ 0 → n ≤ 12
+call-low F op n q e = let i = call-opens F op n q e .0 .inside in le-trans (i .level) (i .finest-most)
 
 pub choice-opens : (F upper lower n q : ℕ) → choiceRefusal F upper lower n q ≡ 0 → (areLimits upper lower ≡ true) × Open F n q
 unfolding choiceRefusal

@@ -2,14 +2,12 @@
 use mathlib.Core.Path.{_≡_, refl, sym, _∙_}
 use Prim.Native.Nat.{_-_, _≤_}
 use Rattle.rules.specs.Rules.{mostFinest}
-use native.Mathlib.Nat.{le-trans}
 use borrow.Author.Needs.{needs}
 use borrow.Author.Tests.{ltb-true}
 use Rattle.rules.proofs.Refusals.{rule-kept}
 use Rattle.coordinate.specs.Registers.{double}
-use Rattle.operations.specs.Lawful.{Open}
 use Rattle.operations.specs.Refusals.{callRefusal}
-use Rattle.operations.proofs.Gates.{call-opens}
+use Rattle.operations.proofs.Gates.{call-opens, call-low}
 use Rattle.engine.proofs.Answers.{call-refused, call-lands}
 use Rattle.engine.proofs.Drawing.double.Statement.{statement}
 use Rattle.engine.proofs.Drawing.double.Tie as tie
@@ -28,11 +26,8 @@ returns c =
 passes : (c : tie.Else1) → callRefusal (c .before .before .args .self .finest) double (c .before .before .args .self .level) (c .before .before .args .self .q) ≡ 0
 passes c = sym (c .before .double-refusal .ensures) ∙ c .if1 .left
 
-opens : (c : tie.Else1) → let d = c .before .before .args .self in Open (d .finest) (d .level) (d .q)
-opens c = call-opens _ double _ _ (passes c) .0
-
 low : (c : tie.Else1) → c .before .before .args .self .level ≤ mostFinest
-low c = let i = opens c .inside in le-trans (i .level) (i .finest-most)
+low c = call-low _ double _ _ (passes c)
 
 double-one-requires : tie.Need-double-one-requires
 double-one-requires c κs = low c

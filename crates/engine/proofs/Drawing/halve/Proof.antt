@@ -3,12 +3,10 @@ use mathlib.Core.Path.{_≡_, refl, sym, _∙_}
 use Prim.Native.Nat.{_≤_}
 use native.Mathlib.Omega.{arith}
 use Rattle.rules.specs.Rules.{mostFinest}
-use native.Mathlib.Nat.{le-trans}
 use borrow.Author.Needs.{needs}
 use Rattle.coordinate.specs.Registers.{halve}
-use Rattle.operations.specs.Lawful.{Open}
 use Rattle.operations.specs.Refusals.{callRefusal}
-use Rattle.operations.proofs.Gates.{call-opens}
+use Rattle.operations.proofs.Gates.{call-low}
 use Rattle.engine.proofs.Answers.{call-refused, call-lands}
 use Rattle.engine.proofs.Drawing.halve.Statement.{statement}
 use Rattle.engine.proofs.Drawing.halve.Tie as tie
@@ -27,11 +25,8 @@ returns c =
 passes : (c : tie.Else1) → callRefusal (c .before .before .args .self .finest) halve (c .before .before .args .self .level) (c .before .before .args .self .q) ≡ 0
 passes c = sym (c .before .halve-refusal .ensures) ∙ c .if1 .left
 
-opens : (c : tie.Else1) → let d = c .before .before .args .self in Open (d .finest) (d .level) (d .q)
-opens c = call-opens _ halve _ _ (passes c) .0
-
 low : (c : tie.Else1) → c .before .before .args .self .level ≤ mostFinest
-low c = let i = opens c .inside in le-trans (i .level) (i .finest-most)
+low c = call-low _ halve _ _ (passes c)
 
 halve-one-requires : tie.Need-halve-one-requires
 halve-one-requires c κs = low c

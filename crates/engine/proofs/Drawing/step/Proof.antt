@@ -5,12 +5,11 @@ use native.Mathlib.Omega.{arith}
 use lib.Pow.{pow-mono}
 use Rattle.rules.specs.Refusals.{firstOf}
 use Rattle.rules.specs.Rules.{mostFinest}
-use native.Mathlib.Nat.{le-trans}
 use borrow.Author.Needs.{needs}
 use Rattle.coordinate.specs.Registers.{step}
 use Rattle.operations.specs.Lawful.{Open}
 use Rattle.operations.specs.Refusals.{gate, callRefusal}
-use Rattle.operations.proofs.Gates.{call-opens}
+use Rattle.operations.proofs.Gates.{call-opens, call-low}
 use Rattle.operations.proofs.Stays.{step-within}
 use Rattle.engine.proofs.Answers.{call-refused, call-lands}
 use Rattle.engine.proofs.Drawing.step.Statement.{statement}
@@ -41,7 +40,7 @@ opens : (c : tie.Else1) → let d = c .before .before .args .self in Open (d .fi
 opens c = call-opens _ step _ _ (passes c) .0
 
 low : (c : tie.Else1) → c .before .before .args .self .level ≤ mostFinest
-low c = let i = opens c .inside in le-trans (i .level) (i .finest-most)
+low c = call-low _ step _ _ (passes c)
 
 step-one-requires : tie.Need-step-one-requires
 step-one-requires c κs = low c
