@@ -8,7 +8,7 @@ pub const SHEET_FINEST: u32 = 11;
 // Neighbours are at most this far apart, whatever the finest level is.
 const MOST_REACH: u32 = 682;
 
-// The limits of an entry without limits.
+// The standard limits.
 const STANDARD_UPPER: u32 = 65536;
 
 const STANDARD_LOWER: u32 = 32768;
@@ -37,6 +37,7 @@ impl Limits {
         (1 <= self.upper) & (self.upper <= 65536) & (self.lower <= self.upper)
     }
 
+    // Those of an entry without limits.
     pub fn standard() -> Limits
         ensures { λ r. ⌜ r ≡ standardLimits ⌝ }
     {
