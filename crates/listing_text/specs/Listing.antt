@@ -14,7 +14,7 @@ use Rattle.sheet.specs.Records.{sheetAt}
 use Rattle.sheet.specs.Reading.{sheetRefusal}
 use Rattle.listing_text.specs.Lines.{pathsLine, pathLine, entryLines, refusedLine}
 
--- a path of a sheet, at the finest level of every sheet's paths and under the sheet's limits
+-- a path of a sheet: its shape, with the finest level of every sheet's paths, and the sheet's limits
 abbrev pub shapeOf : Target → Shape
 shapeOf t = record { segments = t .segments; finest = sheetFinest; level = t .level }
 

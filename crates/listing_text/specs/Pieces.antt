@@ -31,7 +31,7 @@ segmentAt l q = alone (pathIn l (q .at)) (q .segment)
 
 -- ---- the entries of a segment
 
--- numbers enough for a segment's list: at finest level F it has at most 2^F + 1 entries
+-- numbers enough for a segment's list, which has at most 2^F + 1 entries; and for that of a sheet's path
 abbrev pub segmentRoom : ℕ → ℕ
 segmentRoom F = entrySize * (2 ^ F + 1)
 
