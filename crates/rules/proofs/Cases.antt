@@ -7,28 +7,30 @@ use lib.Dec.{T}
 use lib.IntN.{ℤ, pos, negsuc}
 use Rattle.numbers.specs.Tables.{All}
 use Rattle.numbers.proofs.Tables.{tested}
+use Rattle.rules.specs.declared.Degree.{Degree}
+use Rattle.rules.specs.declared.Degree.the-variants.{Quadratic, Cubic}
 use Rattle.rules.specs.Rules.{isFinest, reach, isCoordinate, areNeighbours, isLevel, areLimits, isSegments, isSize, arePoints, areBeside, areChained}
 
--- neighbours and levels at a finest level
+-- neighbours and levels at a finest level, neighbours and sizes of a degree
 pub data Rule : Type 0 where
   finest : ℕ → Rule
   coordinate : ℤ → Rule
-  neighbours : ℕ → ℤ → ℤ → Rule
+  neighbours : Degree → ℕ → ℤ → ℤ → Rule
   level : ℕ → ℕ → Rule
   limits : ℕ → ℕ → Rule
-  size : ℕ → ℕ → Rule
+  size : Degree → ℕ → ℕ → Rule
   points : List ℤ → Rule
   chained : List ℤ → Rule
 
 abbrev pub keeps : Rule → Bool
 keeps (finest F) = isFinest F
 keeps (coordinate p) = isCoordinate p
-keeps (neighbours F p p') = areNeighbours (reach F) p p'
+keeps (neighbours D F p p') = areNeighbours (reach D F) p p'
 keeps (level F n) = isLevel F n
 keeps (limits upper lower) = areLimits upper lower
-keeps (size S numbers) = isSize S numbers
+keeps (size D S numbers) = isSize D S numbers
 keeps (points numbers) = arePoints numbers
-keeps (chained numbers) = areChained (reach 11) numbers
+keeps (chained numbers) = areChained (reach Cubic 11) numbers
 
 pub record Row : Type 0 where
   pub rule : Rule
@@ -56,14 +58,23 @@ table =
     ∷ yes (coordinate (pos 16383))
     ∷ no (coordinate (pos 16384))
     -- neighbours differ by at most 682, and at a coarser finest level by less
-    ∷ yes (neighbours 11 (pos 0) (pos 682))
-    ∷ no (neighbours 11 (pos 0) (pos 683))
-    ∷ yes (neighbours 11 (pos 682) (pos 0))
-    ∷ no (neighbours 11 (pos 683) (pos 0))
-    ∷ yes (neighbours 6 (pos 0) (pos 20))
-    ∷ no (neighbours 6 (pos 0) (pos 21))
-    ∷ yes (neighbours 12 (pos 682) (pos 0))
-    ∷ no (neighbours 12 (pos 683) (pos 0))
+    ∷ yes (neighbours Cubic 11 (pos 0) (pos 682))
+    ∷ no (neighbours Cubic 11 (pos 0) (pos 683))
+    ∷ yes (neighbours Cubic 11 (pos 682) (pos 0))
+    ∷ no (neighbours Cubic 11 (pos 683) (pos 0))
+    ∷ yes (neighbours Cubic 6 (pos 0) (pos 20))
+    ∷ no (neighbours Cubic 6 (pos 0) (pos 21))
+    ∷ yes (neighbours Cubic 12 (pos 682) (pos 0))
+    ∷ no (neighbours Cubic 12 (pos 683) (pos 0))
+    -- those of a quadratic by at most 1,023
+    ∷ yes (neighbours Quadratic 11 (pos 0) (pos 1023))
+    ∷ no (neighbours Quadratic 11 (pos 0) (pos 1024))
+    ∷ yes (neighbours Quadratic 11 (pos 1023) (pos 0))
+    ∷ no (neighbours Quadratic 11 (pos 1024) (pos 0))
+    ∷ yes (neighbours Quadratic 6 (pos 0) (pos 31))
+    ∷ no (neighbours Quadratic 6 (pos 0) (pos 32))
+    ∷ yes (neighbours Quadratic 12 (pos 1023) (pos 0))
+    ∷ no (neighbours Quadratic 12 (pos 1024) (pos 0))
     -- levels 0 to the finest
     ∷ yes (level 11 0)
     ∷ yes (level 11 11)
@@ -80,12 +91,20 @@ table =
     ∷ no (limits 0 0)
     ∷ no (limits 1 2)
     -- 1 to 64 segments, 3(3S+1) numbers: those of two coordinates are too few
-    ∷ yes (size 1 12)
-    ∷ no (size 1 11)
-    ∷ no (size 1 8)
-    ∷ no (size 0 3)
-    ∷ yes (size 64 579)
-    ∷ no (size 65 588)
+    ∷ yes (size Cubic 1 12)
+    ∷ no (size Cubic 1 11)
+    ∷ no (size Cubic 1 8)
+    ∷ no (size Cubic 0 3)
+    ∷ yes (size Cubic 64 579)
+    ∷ no (size Cubic 65 588)
+    -- 3(2S+1) numbers of a quadratic path: those of a cubic are too many
+    ∷ yes (size Quadratic 1 9)
+    ∷ no (size Quadratic 1 12)
+    ∷ no (size Cubic 1 9)
+    ∷ no (size Quadratic 1 6)
+    ∷ no (size Quadratic 0 3)
+    ∷ yes (size Quadratic 64 387)
+    ∷ no (size Quadratic 65 393)
     -- each number of a path's points is a coordinate, the first and the last too
     ∷ yes (points (negsuc 16383 ∷ pos 16383 ∷ pos 16383 ∷ pos 16383 ∷ negsuc 16383 ∷ negsuc 16383 ∷ []))
     ∷ no (points (negsuc 16384 ∷ pos 0 ∷ pos 0 ∷ pos 0 ∷ pos 0 ∷ pos 0 ∷ []))

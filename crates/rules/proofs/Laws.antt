@@ -10,7 +10,9 @@ use borrow.Author.Tests.{leb-true, eqb-true, le-leb, eq-eqb}
 use Rattle.numbers.proofs.Order.{leZ-true, le-leZ}
 use Rattle.numbers.proofs.Size.{Size}
 use Rattle.numbers.proofs.Tests.{and-true, and-three}
-use Rattle.rules.specs.Rules.{isFinest, sheetFinest, isCoordinate, areNeighbours, isLevel, areLimits, standardLimits, mostSegments, isSegments, pointNumbers, isSize, natural}
+use Rattle.rules.specs.declared.Degree.{Degree}
+use Rattle.rules.specs.declared.Degree.the-variants.{Quadratic, Cubic}
+use Rattle.rules.specs.Rules.{isFinest, sheetFinest, degree, isCoordinate, areNeighbours, isLevel, areLimits, standardLimits, mostSegments, isSegments, pointNumbers, isSize, natural}
 
 pub coordinate-size : (p : ℤ) → isCoordinate p ≡ true → Size p 16384
 unfolding isCoordinate
@@ -87,22 +89,52 @@ hold-limits {upper} {lower} l =
 pub standard-limits : (standardLimits .upper ≡ 65536) × (standardLimits .lower ≡ 32768)
 standard-limits = (refl, refl)
 
--- 1 to 64 segments, and 3(3S + 1) numbers
-pub record Sized (S numbers : ℕ) : Type 0 where
+-- ---- degrees
+
+-- a quadratic has two points after its first, a cubic three
+pub degrees : (degree Quadratic ≡ 2) × (degree Cubic ≡ 3)
+degrees = (refl, refl)
+
+-- so that the two differ
+pub degree-tells : (D E : Degree) → degree D ≡ degree E → D ≡ E
+degree-tells Quadratic Quadratic e = refl
+degree-tells Quadratic Cubic e = let no : ⊥ = omega arith in absurd no
+degree-tells Cubic Quadratic e = let no : ⊥ = omega arith in absurd no
+degree-tells Cubic Cubic e = refl
+
+pub degree-some : (D : Degree) → 1 ≤ degree D
+degree-some Quadratic = omega arith
+degree-some Cubic = omega arith
+
+pub degree-most : (D : Degree) → degree D ≤ 3
+degree-most Quadratic = omega arith
+degree-most Cubic = omega arith
+
+-- 1 to 64 segments, and 3(D·S + 1) numbers
+pub record Sized (D : Degree) (S numbers : ℕ) : Type 0 where
   pub some : 1 ≤ S
   pub most : S ≤ 64
-  pub size : numbers ≡ 3 * (3 * S + 1)
+  pub size : numbers ≡ 3 * (degree D * S + 1)
 
-pub size-holds : (S numbers : ℕ) → isSize S numbers ≡ true → Sized S numbers
+pub size-holds : (D : Degree) (S numbers : ℕ) → isSize D S numbers ≡ true → Sized D S numbers
 unfolding isSize isSegments
-size-holds S numbers e =
-    let t = and-three (leb 1 S) (leb S mostSegments) (eqb numbers (pointNumbers S)) e in
-    record { some = leb-true 1 S (t .0); most = leb-true S mostSegments (t .1); size = eqb-true numbers (pointNumbers S) (t .2) }
+size-holds D S numbers e =
+    let t = and-three (leb 1 S) (leb S mostSegments) (eqb numbers (pointNumbers D S)) e in
+    record { some = leb-true 1 S (t .0); most = leb-true S mostSegments (t .1); size = eqb-true numbers (pointNumbers D S) (t .2) }
 
-pub holds-size : {S numbers : ℕ} → Sized S numbers → isSize S numbers ≡ true
+pub holds-size : {D : Degree} {S numbers : ℕ} → Sized D S numbers → isSize D S numbers ≡ true
 unfolding isSize isSegments
-holds-size {S} {numbers} s =
-    ap₂ _&&_ (ap₂ _&&_ (le-leb 1 S (s .some)) (le-leb S mostSegments (s .most))) (eq-eqb numbers (pointNumbers S) (s .size))
+holds-size {D} {S} {numbers} s =
+    ap₂ _&&_ (ap₂ _&&_ (le-leb 1 S (s .some)) (le-leb S mostSegments (s .most))) (eq-eqb numbers (pointNumbers D S) (s .size))
+
+-- at most 64 segments: at most 579 numbers
+few-segments : (S : ℕ) → isSegments S ≡ true → S ≤ 64
+unfolding isSegments
+few-segments S e = leb-true S mostSegments (and-true (leb 1 S) (leb S mostSegments) e .1)
+
+pub few-numbers : (D : Degree) (S : ℕ) → isSegments S ≡ true → pointNumbers D S ≤ 579
+few-numbers Quadratic S e = omega (arith, few-segments S e)
+few-numbers Cubic S e = omega (arith, few-segments S e)
 
 -- ---- numbers of a number list
 

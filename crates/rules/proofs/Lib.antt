@@ -2,6 +2,7 @@
 pub mod Refusals
 pub mod Laws
 pub mod Reaches
+pub mod Marks
 pub mod Order
 pub mod Cases
 pub mod Every

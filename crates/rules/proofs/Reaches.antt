@@ -1,39 +1,51 @@
--- How far apart neighbours may be at each finest level.
+-- How far apart neighbours may be at each finest level, of either degree.
 use mathlib.Core.Path.{_≡_, refl}
 use mathlib.Core.List.{[], _∷_, map}
 use Prim.Native.Nat.{ℕ, _+_, _-_, _*_, _/_, _^_, _≤_, _<_}
 use native.Mathlib.Nat.{min-le-left, min-le-right, min-eq-left, min-eq-right}
 use native.Mathlib.Omega.{arith}
 use lib.Pow.{pow-mono}
-use Rattle.rules.specs.Rules.{mostReach, reach}
+use Rattle.rules.specs.declared.Degree.{Degree}
+use Rattle.rules.specs.declared.Degree.the-variants.{Quadratic, Cubic}
+use Rattle.rules.specs.Rules.{degree, mostReach, reach}
 use Rattle.rules.proofs.Laws.{Fine}
 
 -- at 6 to 12, as numbers
-pub reaches-are : map reach (6 ∷ 7 ∷ 8 ∷ 9 ∷ 10 ∷ 11 ∷ 12 ∷ []) ≡ 20 ∷ 42 ∷ 84 ∷ 170 ∷ 340 ∷ 682 ∷ 682 ∷ []
+pub cubic-reaches : map (reach Cubic) (6 ∷ 7 ∷ 8 ∷ 9 ∷ 10 ∷ 11 ∷ 12 ∷ []) ≡ 20 ∷ 42 ∷ 84 ∷ 170 ∷ 340 ∷ 682 ∷ 682 ∷ []
 unfolding reach
-reaches-are = refl
+cubic-reaches = refl
 
-pub reach-most : (F : ℕ) → reach F ≤ 682
+pub quadratic-reaches : map (reach Quadratic) (6 ∷ 7 ∷ 8 ∷ 9 ∷ 10 ∷ 11 ∷ 12 ∷ []) ≡ 31 ∷ 63 ∷ 127 ∷ 255 ∷ 511 ∷ 1023 ∷ 1023 ∷ []
 unfolding reach
-reach-most F = min-le-left mostReach ((2 ^ F - 2) / 3)
+quadratic-reaches = refl
 
--- three neighbours' differences are at least 2 short of 2^F
-pub reach-room : (F : ℕ) → Fine F → 3 * reach F + 2 ≤ 2 ^ F
+pub reach-most : (D : Degree) (F : ℕ) → reach D F ≤ mostReach D
 unfolding reach
-reach-room F f =
+reach-most D F = min-le-left (mostReach D) ((2 ^ F - 2) / degree D)
+
+-- the differences of a segment's neighbours add up to 2 less than 2^F at most
+pub reach-room : (D : Degree) (F : ℕ) → Fine F → degree D * reach D F + 2 ≤ 2 ^ F
+unfolding reach
+reach-room Quadratic F f =
     let two : 64 ≤ 2 ^ F = pow-mono {i = 6} (f .least) in
-    omega (arith, min-le-right mostReach ((2 ^ F - 2) / 3))
+    omega (arith, min-le-right (mostReach Quadratic) ((2 ^ F - 2) / 2))
+reach-room Cubic F f =
+    let two : 64 ≤ 2 ^ F = pow-mono {i = 6} (f .least) in
+    omega (arith, min-le-right (mostReach Cubic) ((2 ^ F - 2) / 3))
 
 -- ---- as it is reckoned
 
-pub reach-fine : (F : ℕ) → F ≤ 11 → reach F ≡ (2 ^ F - 2) / 3
+pub reach-coarsest : (D : Degree) → reach D 0 ≡ 0
 unfolding reach
-reach-fine F h =
-    let few : 2 ^ F ≤ 2048 = pow-mono {j = 11} h in
-    min-eq-right (omega arith)
+reach-coarsest Quadratic = refl
+reach-coarsest Cubic = refl
 
-pub reach-finer : (F : ℕ) → 11 < F → reach F ≡ mostReach
+pub reach-fine : (D : Degree) (F : ℕ) → F ≤ 11 → reach D F ≡ (2 ^ F - 2) / degree D
 unfolding reach
-reach-finer F h =
-    let many : 4096 ≤ 2 ^ F = pow-mono {i = 12} h in
-    min-eq-left (omega arith)
+reach-fine Quadratic F h = let few : 2 ^ F ≤ 2048 = pow-mono {j = 11} h in min-eq-right (omega arith)
+reach-fine Cubic F h = let few : 2 ^ F ≤ 2048 = pow-mono {j = 11} h in min-eq-right (omega arith)
+
+pub reach-finer : (D : Degree) (F : ℕ) → 11 < F → reach D F ≡ mostReach D
+unfolding reach
+reach-finer Quadratic F h = let many : 4096 ≤ 2 ^ F = pow-mono {i = 12} h in min-eq-left (omega arith)
+reach-finer Cubic F h = let many : 4096 ≤ 2 ^ F = pow-mono {i = 12} h in min-eq-left (omega arith)

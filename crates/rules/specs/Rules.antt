@@ -1,12 +1,15 @@
 -- What the documents accept, by their refusal numbers 1 to 4, 14 and 24.
-use mathlib.Core.Bool.{Bool, true, _&&_}
+use mathlib.Core.Bool.{Bool, true, cond, _&&_}
 use mathlib.Core.List.{List, [], _∷_}
 use Prim.Native.Nat.{ℕ, _+_, _-_, _*_, _/_, _^_, min}
-use lib.Dec.{leb, eqb}
+use lib.Dec.{leb, ltb, eqb}
 use lib.IntN.{ℤ, pos, negsuc, natAbs, _-ℤ_}
 use lib.ListN.{drop}
 use lib.Signed.{leZ}
+use Rattle.rules.specs.declared.Degree.{Degree}
+use Rattle.rules.specs.declared.Degree.the-variants.{Quadratic, Cubic}
 use Rattle.rules.specs.declared.Limits.{Limits}
+use Rattle.rules.specs.declared.Marked.{Marked}
 use Rattle.rules.specs.Refusals.{unless}
 
 -- 24: a finest level is from 6 to 12. At finest level F a position counts 2^F-ths of the parameter.
@@ -24,12 +27,19 @@ sheetFinest = 11
 unfoldable pub isCoordinate : ℤ → Bool
 isCoordinate p = leZ (negsuc 16383) p && leZ p (pos 16383)
 
--- 2: neighbouring control points differ by at most W in a coordinate: the smaller of 682 and the floor of (2^F − 2)/3
-abbrev pub mostReach : ℕ
-mostReach = 682
+-- a curve of degree D has D points after its first
+abbrev pub degree : Degree → ℕ
+degree Quadratic = 2
+degree Cubic = 3
 
-unfoldable pub reach : ℕ → ℕ
-reach F = min mostReach ((2 ^ F - 2) / 3)
+-- 2: neighbouring control points differ by at most W in a coordinate. Of a cubic that is the smaller of 682 and the floor of (2^F − 2)/3, of a
+-- quadratic the smaller of 1,023 and (2^F − 2)/2.
+abbrev pub mostReach : Degree → ℕ
+mostReach Quadratic = 1023
+mostReach Cubic = 682
+
+unfoldable pub reach : Degree → ℕ → ℕ
+reach D F = min (mostReach D) ((2 ^ F - 2) / degree D)
 
 unfoldable pub areNeighbours : ℕ → ℤ → ℤ → Bool
 areNeighbours W p p' = leb (natAbs (p' -ℤ p)) W
@@ -52,10 +62,7 @@ standardLower = 32768
 abbrev pub standardLimits : Limits
 standardLimits = record { upper = standardUpper; lower = standardLower }
 
--- 14: a path has 1 to 64 segments, and 3S + 1 points of three coordinates: x, y and the width
-abbrev pub degree : ℕ
-degree = 3
-
+-- 14: a path has 1 to 64 segments, and D·S + 1 points of three coordinates: x, y and the width
 abbrev pub coordinates : ℕ
 coordinates = 3
 
@@ -66,11 +73,11 @@ unfoldable pub isSegments : ℕ → Bool
 isSegments S = leb 1 S && leb S mostSegments
 
 -- the numbers of a path's points
-abbrev pub pointNumbers : ℕ → ℕ
-pointNumbers S = coordinates * (degree * S + 1)
+abbrev pub pointNumbers : Degree → ℕ → ℕ
+pointNumbers D S = coordinates * (degree D * S + 1)
 
-unfoldable pub isSize : ℕ → ℕ → Bool
-isSize S numbers = isSegments S && eqb numbers (pointNumbers S)
+unfoldable pub isSize : Degree → ℕ → ℕ → Bool
+isSize D S numbers = isSegments S && eqb numbers (pointNumbers D S)
 
 -- a path's two numbers before its points: 14 by its segments, then 3
 unfoldable pub headRefusal : ℕ → ℕ → ℕ → ℕ
@@ -99,7 +106,24 @@ pointsRefusal W ps = unless (arePoints ps) 1 (unless (areChained W ps) 2 0)
 
 -- ---- numbers of a number list
 
--- a count, a limit, segments or a level; one below 0 is larger than any rule allows
+-- a count, a limit, segments or a mark; one below 0 is larger than any rule allows
 abbrev pub natural : ℤ → ℕ
 natural (pos n) = n
 natural (negsuc n) = 4294967295
+
+-- ---- the mark: a path's degree and start level in one number, on a sheet and in its number list
+
+-- a level with 256 added marks a quadratic path
+abbrev pub quadraticMark : ℕ
+quadraticMark = 256
+
+unfoldable pub mark : Degree → ℕ → ℕ
+mark Quadratic n = n + quadraticMark
+mark Cubic n = n
+
+-- read back, from any number
+unfoldable pub marked : ℕ → Marked
+marked m =
+    cond (ltb m quadraticMark)
+    (record { degree = Cubic; level = m })
+    (record { degree = Quadratic; level = m - quadraticMark })

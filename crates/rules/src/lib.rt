@@ -1,27 +1,53 @@
 // The rules that every room shares: refusals 1 to 4, 14 and 24, as tests of any numbers.
 ghost use mathlib.Core.Path.{_≡_};
-ghost use Rattle.rules.specs.Rules.{isFinest, reach, isCoordinate, areNeighbours, isLevel, areLimits, standardLimits, isSegments, pointNumbers, isSize, headRefusal, arePoints, areChained, pointsRefusal, natural};
+ghost use Rattle.rules.specs.Rules.{isFinest, degree, mostReach, reach, isCoordinate, areNeighbours, isLevel, areLimits, standardLimits, isSegments, pointNumbers, isSize, headRefusal, arePoints, areChained, pointsRefusal, natural, marked};
 
 // The finest level of a sheet's paths.
 pub const SHEET_FINEST: u32 = 11;
-
-// Neighbours are at most this far apart, whatever the finest level is.
-const MOST_REACH: u32 = 682;
 
 // The standard limits.
 const STANDARD_UPPER: u32 = 65536;
 
 const STANDARD_LOWER: u32 = 32768;
 
-// Segment k has the points from DEGREE * k to DEGREE * k + DEGREE, of so many numbers each.
-pub const DEGREE: usize = 3;
-
+// A point has so many numbers.
 pub const COORDINATES: usize = 3;
 
 pub const MOST_SEGMENTS: u32 = 64;
 
-// The numbers of the points of MOST_SEGMENTS segments.
-pub const MOST_POINT_NUMBERS: usize = COORDINATES * (DEGREE * MOST_SEGMENTS as usize + 1);
+// The numbers of the points of MOST_SEGMENTS segments, of the larger degree.
+pub const MOST_POINT_NUMBERS: usize = COORDINATES * (3 * MOST_SEGMENTS as usize + 1);
+
+// In a sheet and in its number list so much is added to the start level of a quadratic path.
+const QUADRATIC_MARK: u32 = 256;
+
+// The degree of a path's curves.
+pub enum Degree {
+    Quadratic,
+    Cubic,
+}
+
+impl Degree {
+    // Of degree D segment k has the points from D * k to D * k + D.
+    pub fn number(self) -> u32
+        ensures { λ r. ⌜ r ≡ degree self ⌝ }
+    {
+        match self {
+            Degree::Quadratic => 2,
+            Degree::Cubic => 3,
+        }
+    }
+
+    // Neighbours are at most this far apart, whatever the finest level is.
+    pub fn most_reach(self) -> u32
+        ensures { λ r. ⌜ r ≡ mostReach self ⌝ }
+    {
+        match self {
+            Degree::Quadratic => 1023,
+            Degree::Cubic => 682,
+        }
+    }
+}
 
 // The limits by which an operation is chosen, in 65,536ths of a unit.
 pub struct Limits {
@@ -63,16 +89,16 @@ pub fn coordinate(p: i32) -> bool
 }
 
 // How far apart neighbours may be at finest level f, which may be any number.
-pub fn reach(f: u32) -> u32
-    ensures { λ r. ⌜ r ≡ reach f ⌝ }
+pub fn reach(degree: Degree, f: u32) -> u32
+    ensures { λ r. ⌜ r ≡ reach degree f ⌝ }
 {
     if f == 0 {
         return 0;
     }
     if f > 11 {
-        return MOST_REACH;
+        return degree.most_reach();
     }
-    ((1 << f) - 2) / 3
+    ((1 << f) - 2) / degree.number()
 }
 
 // 2 where it fails. Any two numbers may be asked: their difference is taken in 64 bits.
@@ -99,20 +125,20 @@ pub fn segments(count: u32) -> bool
 }
 
 // How many numbers the points of so many segments are.
-pub fn point_numbers(count: u32) -> usize
-    ensures { λ r. ⌜ r ≡ pointNumbers count ⌝ }
+pub fn point_numbers(degree: Degree, count: u32) -> usize
+    ensures { λ r. ⌜ r ≡ pointNumbers degree count ⌝ }
 {
-    COORDINATES * (DEGREE * count as usize + 1)
+    COORDINATES * (degree.number() as usize * count as usize + 1)
 }
 
 // 14 where it fails.
-pub fn size(count: u32, numbers: usize) -> bool
-    ensures { λ r. ⌜ r ≡ isSize count numbers ⌝ }
+pub fn size(degree: Degree, count: u32, numbers: usize) -> bool
+    ensures { λ r. ⌜ r ≡ isSize degree count numbers ⌝ }
 {
     if !segments(count) {
         return false;
     }
-    numbers == point_numbers(count)
+    numbers == point_numbers(degree, count)
 }
 
 // The refusal by a path's segments, 14, and by its start level, 3; 0 for none.
@@ -171,9 +197,33 @@ pub fn points_refusal(reach: u32, numbers: &[i32]) -> u32
     0
 }
 
-// A count, a limit, segments or a level of a number list; one below 0 is larger than any rule allows.
+// A count, a limit, segments or a mark of a number list; one below 0 is larger than any rule allows.
 pub fn natural(z: i32) -> u32
     ensures { λ r. ⌜ r ≡ natural z ⌝ }
 {
     if z < 0 { 4294967295 } else { z as u32 }
+}
+
+// The degree and the start level of a path, which a sheet and its number list have in one number, the mark.
+pub struct Marked {
+    pub degree: Degree,
+    pub level: u32,
+}
+
+impl Marked {
+    // From 256 on a mark is a quadratic's, and what is left after 256 is taken off is the level, whatever it is.
+    pub fn by(mark: u32) -> Marked
+        ensures { λ r. ⌜ r ≡ marked mark ⌝ }
+    {
+        if mark < QUADRATIC_MARK {
+            return Marked {
+                degree: Degree::Cubic,
+                level: mark,
+            };
+        }
+        Marked {
+            degree: Degree::Quadratic,
+            level: mark - QUADRATIC_MARK,
+        }
+    }
 }
