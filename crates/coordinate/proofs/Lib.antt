@@ -1,5 +1,6 @@
 -- Laws of one coordinate, for the crates that cite them.
 pub mod Points
+pub mod Coefficients
 pub mod Bits
 pub mod Start
 pub mod Floors
@@ -12,7 +13,10 @@ pub mod Turns
 pub mod Pixel
 pub mod Near
 pub mod Sizes
-pub mod Cubic
+pub mod CubicSizes
+pub mod Multiple
+pub mod Raised
+pub mod Tame
 pub mod Ends
 pub mod Touching
 pub mod Stands

@@ -9,10 +9,11 @@ use lib.Pow.{pow-mono}
 use lib.IntN.{ℤ, pos, negsuc, _*ℤ_}
 use borrow.Author.Tests.{le-leb}
 use Rattle.numbers.proofs.Size.{Size, size-of, size-by, size-sum, size-floor}
-use Rattle.coordinate.specs.declared.Control.{Control}
+use Rattle.rules.specs.declared.Degree.{Degree}
 use Rattle.coordinate.specs.declared.Registers.{Registers}
-use Rattle.coordinate.specs.Curve.{Curve, curve, exact}
-use Rattle.coordinate.specs.Course.{Course, cubic}
+use Rattle.coordinate.specs.Control.{Control}
+use Rattle.coordinate.specs.Curve.{Curve, exact}
+use Rattle.coordinate.specs.Course.{Course, course}
 use Rattle.coordinate.specs.Registers.{isRegister, areRegisters}
 use Rattle.coordinate.specs.Shown.{pixel}
 use Rattle.coordinate.specs.Stands.{Stands, InNumbers}
@@ -64,7 +65,7 @@ stands F p n j q r h t o =
       shown = shown-size F p n j q r h t o .le;
     }
 
-pub in-numbers : (p : Control) (q : ℕ) (r : Registers) → Stands 11 (cubic p) q r → InNumbers p q r
+pub in-numbers : (D : Degree) (p : Control D) (q : ℕ) (r : Registers) → Stands 11 (course D p) q r → InNumbers D p q r
 unfolding exact
-in-numbers p q r s =
-    record { fits = s .fits; near = s .near; first = s .first; first-shown = s .first-shown; last-shown = s .last-shown; shown = s .shown }
+in-numbers D p q r s =
+    record { fits = s .fits; near = s .near; start = s .first; first-shown = s .first-shown; last-shown = s .last-shown; shown = s .shown }

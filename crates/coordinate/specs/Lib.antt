@@ -1,3 +1,4 @@
+pub mod Control
 pub mod Curve
 pub mod Points
 pub mod Course

@@ -5,9 +5,10 @@ use mathlib.Core.Bool.{true}
 use Prim.Native.Nat.{ℕ, _*_, _^_, _≤_, _<_}
 use lib.IntN.{ℤ, pos, natAbs, _+ℤ_, _-ℤ_, _*ℤ_}
 use Rattle.coordinate.specs.declared.Registers.{Registers}
-use Rattle.coordinate.specs.declared.Control.{Control}
+use Rattle.rules.specs.declared.Degree.{Degree}
+use Rattle.coordinate.specs.Control.{Control}
 use Rattle.coordinate.specs.Curve.{curve, exact}
-use Rattle.coordinate.specs.Course.{Course}
+use Rattle.coordinate.specs.Course.{Course, first, last}
 use Rattle.coordinate.specs.Registers.{areRegisters}
 use Rattle.coordinate.specs.Shown.{pixel}
 
@@ -23,15 +24,15 @@ pub record Stands (F : ℕ) (p : Course) (q : ℕ) (r : Registers) : Type 0 wher
 -- ---- at F = 11, in the demand's own numbers
 
 -- f(q / 2,048), times 2^33
-abbrev pub exactly : Control → ℕ → ℤ
-exactly p q =
-    let f = curve p in
+abbrev pub exactly : (D : Degree) → Control D → ℕ → ℤ
+exactly D p q =
+    let f = curve D p in
     f .A *ℤ pos (q * q * q) +ℤ f .B *ℤ pos (q * q * 2 ^ 11) +ℤ f .C *ℤ pos (q * 2 ^ 22) +ℤ f .D *ℤ pos (2 ^ 33)
 
-pub record InNumbers (p : Control) (q : ℕ) (r : Registers) : Type 0 where
+pub record InNumbers (D : Degree) (p : Control D) (q : ℕ) (r : Registers) : Type 0 where
   pub fits : areRegisters r ≡ true
-  pub near : natAbs (r .d *ℤ pos (2 ^ 33) -ℤ pos 65536 *ℤ exactly p q) < 6144 * 2 ^ 33
-  pub first : q ≡ 0 → r .d ≡ pos 65536 *ℤ p .p0
-  pub first-shown : q ≡ 0 → pixel r ≡ p .p0
-  pub last-shown : q ≡ 2048 → pixel r ≡ p .p3
+  pub near : natAbs (r .d *ℤ pos (2 ^ 33) -ℤ pos 65536 *ℤ exactly D p q) < 6144 * 2 ^ 33
+  pub start : q ≡ 0 → r .d ≡ pos 65536 *ℤ first D p
+  pub first-shown : q ≡ 0 → pixel r ≡ first D p
+  pub last-shown : q ≡ 2048 → pixel r ≡ last D p
   pub shown : natAbs (pixel r) ≤ 16385

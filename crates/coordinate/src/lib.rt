@@ -9,9 +9,15 @@ pub struct Registers {
 }
 
 // One coordinate of a curve's control points, the first point first.
-pub struct Control {
+pub struct Cubic {
     pub p0: i32,
     pub p1: i32,
     pub p2: i32,
     pub p3: i32,
+}
+
+pub struct Quadratic {
+    pub p0: i32,
+    pub p1: i32,
+    pub p2: i32,
 }
