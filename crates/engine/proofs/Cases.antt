@@ -1,6 +1,6 @@
--- The starred cases C to J of document 01, as one statement over a table of them. A row has the finest level, 11 in the document's, the control
--- points of x, the start level and the calls, each case from its own start; and the document's numbers. The other coordinates are 0 throughout.
--- The rows at finest levels 6 and 12 are not the document's: their numbers are the model's.
+-- The starred cases C to J of document 01, as one statement over a table of them. A row has the degree and the finest level, cubic and 11 in the
+-- document's, the control points of x, the start level and the calls, each case from its own start; and the document's numbers. The other
+-- coordinates are 0 throughout. The rows at finest levels 6 and 12 and those of quadratics are not the document's: their numbers are the model's.
 use mathlib.Core.Path.{_≡_}
 use mathlib.Core.Bool.{Bool, true, cond}
 use mathlib.Core.List.{List, [], _∷_}
@@ -12,23 +12,26 @@ use Rattle.numbers.specs.Tests.{eqbℤ}
 use Rattle.numbers.proofs.Tests.{eqbℤ→eq}
 use Rattle.numbers.specs.Tables.{All, every}
 use Rattle.numbers.proofs.Tables.{tested}
+use Rattle.rules.specs.declared.Degree.{Degree}
+use Rattle.rules.specs.declared.Degree.the-variants.{Quadratic, Cubic}
 use Rattle.rules.specs.Rules.{isFinest, reach, isCoordinate, areNeighbours, isLevel}
 use Rattle.coordinate.specs.declared.Registers.{Registers}
-use Rattle.coordinate.specs.declared.Control.{Control}
+use Rattle.coordinate.specs.Control.{Control}
 use Rattle.coordinate.specs.Curve.{curve}
 use Rattle.coordinate.specs.Points.{areCoordinates, areNear}
 use Rattle.coordinate.specs.Registers.{Operation, halve, double, step, turn, startRegisters, areRegisters}
 use Rattle.operations.specs.Coordinates.{pick, every as everyCoordinate}
 use Rattle.operations.specs.Position.{isDrawing, isAligned}
-use Rattle.operations.specs.Refusals.{gate, callRefusal, registersRefusal, startRefusal}
+use Rattle.operations.specs.Refusals.{gate, callRefusal, registersRefusal, beginRefusal, startRefusal}
 use Rattle.engine.specs.declared.Moved.{Moved}
 use Rattle.engine.specs.Drawing.{turned, called}
 use Rattle.engine.specs.Start.{zeros, started}
 
 -- the numbers that the document gives, where it gives them; `own` is the finest level of the drawing reached, 0 after a refused start, and `to` its level
 pub record Row : Type 0 where
+  pub degree : Degree
   pub finest : ℕ
-  pub points : Control
+  pub points : Control degree
   pub level : ℕ
   pub calls : List Operation
   pub refusal : ℕ
@@ -45,11 +48,15 @@ abbrev pub run : Moved → List Operation → Moved
 run m [] = m
 run m (op ∷ ops) = cond (eqb (m .refusal) 0) (run (called op (m .drawing)) ops) m
 
-abbrev pub flat : ℤ → Control
-flat z = record { p0 = z; p1 = z; p2 = z; p3 = z }
+-- all points the same
+abbrev pub flat : (D : Degree) → ℤ → Control D
+flat Quadratic z = record { p0 = z; p1 = z; p2 = z }
+flat Cubic z = record { p0 = z; p1 = z; p2 = z; p3 = z }
 
 abbrev pub reached : Row → Moved
-reached w = run (started (w .finest) (pick (w .points) (flat (pos 0)) (flat (pos 0))) (w .level)) (w .calls)
+reached w =
+    let still = flat (w .degree) (pos 0) in
+    run (started (w .degree) (w .finest) (pick (w .points) still still) (w .level)) (w .calls)
 
 -- a number is what the document says, where it says something
 abbrev pub Agrees : {A : Type 0} → Option A → A → Type 0
@@ -70,29 +77,33 @@ pub record Holds (w : Row) : Type 0 where
 
 -- ---- the table
 
-abbrev pub line : ℤ → ℤ → ℤ → ℤ → Control
+abbrev pub line : ℤ → ℤ → ℤ → ℤ → Control Cubic
 line p q r s = record { p0 = p; p1 = q; p2 = r; p3 = s }
 
+abbrev pub bend : ℤ → ℤ → ℤ → Control Quadratic
+bend p q r = record { p0 = p; p1 = q; p2 = r }
+
 -- a row whose start is accepted, at finest level 11
-abbrev row : Control → ℕ → List Operation → Option ℕ → Option ℤ → Option ℤ → Option ℤ → Option ℤ → Row
+abbrev row : Control Cubic → ℕ → List Operation → Option ℕ → Option ℤ → Option ℤ → Option ℤ → Option ℤ → Row
 row p n ops q a b c d =
-    record { finest = 11; points = p; level = n; calls = ops; refusal = 0; own = 11; to = none; q = q; a = a; b = b; c = c; d = d }
+    record { degree = Cubic; finest = 11; points = p; level = n; calls = ops; refusal = 0; own = 11; to = none; q = q; a = a; b = b; c = c; d = d }
 
 -- rows of which the refusal of the start alone is given: none, or the number k
-abbrev begins : ℕ → Control → ℕ → ℕ → ℕ → Row
-begins F p n k own =
-    record { finest = F; points = p; level = n; calls = []; refusal = k; own = own; to = none; q = none; a = none; b = none; c = none; d = none }
+abbrev begins : (D : Degree) → ℕ → Control D → ℕ → ℕ → ℕ → Row
+begins D F p n k own =
+    record { degree = D; finest = F; points = p; level = n; calls = []; refusal = k; own = own; to = none; q = none; a = none; b = none; c = none; d = none }
 
-abbrev accepts : ℕ → Control → ℕ → Row
-accepts F p n = begins F p n 0 F
+abbrev accepts : ℕ → Control Cubic → ℕ → Row
+accepts F p n = begins Cubic F p n 0 F
 
-abbrev refuses : ℕ → Control → ℕ → ℕ → Row
-refuses F p n k = begins F p n k 0
+abbrev refuses : ℕ → Control Cubic → ℕ → ℕ → Row
+refuses F p n k = begins Cubic F p n k 0
 
 -- a row at any finest level, of which the last call is refused by k, 0 for none
-abbrev ends : ℕ → Control → ℕ → List Operation → ℕ → ℕ → ℕ → ℤ → ℤ → ℤ → ℤ → Row
-ends F p n ops k m q a b c d =
+abbrev leads : (D : Degree) → ℕ → Control D → ℕ → List Operation → ℕ → ℕ → ℕ → ℤ → ℤ → ℤ → ℤ → Row
+leads D F p n ops k m q a b c d =
     record {
+      degree = D;
       finest = F;
       points = p;
       level = n;
@@ -107,20 +118,23 @@ ends F p n ops k m q a b c d =
       d = some d;
     }
 
-abbrev eight : Control
+abbrev ends : ℕ → Control Cubic → ℕ → List Operation → ℕ → ℕ → ℕ → ℤ → ℤ → ℤ → ℤ → Row
+ends = leads Cubic
+
+abbrev eight : Control Cubic
 eight = line (pos 0) (pos 0) (pos 0) (pos 8)
 
-abbrev one : Control
+abbrev one : Control Cubic
 one = line (pos 0) (pos 0) (pos 0) (pos 1)
 
-abbrev minus-one : Control
+abbrev minus-one : Control Cubic
 minus-one = line (pos 0) (pos 0) (pos 0) (negsuc 0)
 
 -- the last two points are as far apart as they may be at finest level 6, and at 12
-abbrev twenty : Control
+abbrev twenty : Control Cubic
 twenty = line (pos 0) (pos 0) (pos 0) (pos 20)
 
-abbrev farthest : Control
+abbrev farthest : Control Cubic
 farthest = line (pos 0) (pos 0) (pos 0) (pos 682)
 
 abbrev thrice : Operation → List Operation
@@ -147,10 +161,10 @@ table =
     ∷ accepts 11 (line (pos 0) (pos 682) (pos 682) (pos 682)) 0
     ∷ refuses 11 (line (pos 0) (pos 683) (pos 683) (pos 683)) 0 2
     -- J: level 11 accepted, 12 refused 3; with all four points equal, coordinate 16,383 accepted, 16,384 refused 1
-    ∷ accepts 11 (flat (pos 0)) 11
-    ∷ refuses 11 (flat (pos 0)) 12 3
-    ∷ accepts 11 (flat (pos 16383)) 0
-    ∷ refuses 11 (flat (pos 16384)) 0 1
+    ∷ accepts 11 (flat Cubic (pos 0)) 11
+    ∷ refuses 11 (flat Cubic (pos 0)) 12 3
+    ∷ accepts 11 (flat Cubic (pos 16383)) 0
+    ∷ refuses 11 (flat Cubic (pos 16384)) 0 1
     -- not document 01's: at finest level 6 a start, halves down to level 6 with 6 refused there, steps to q = 64 with 5 there
     ∷ ends 6 twenty 0 [] 0 0 0 (pos 7864320) (pos 7864320) (pos 1310720) (pos 0)
     ∷ ends 6 twenty 4 (thrice halve) 6 6 0 (pos 122880) (pos 122880) (pos 320) (pos 0)
@@ -167,8 +181,28 @@ table =
     ∷ accepts 12 farthest 12
     ∷ refuses 12 farthest 13 3
     -- finest levels 5 and 13 are refused 24
-    ∷ refuses 5 (flat (pos 0)) 0 24
-    ∷ refuses 13 (flat (pos 0)) 0 24
+    ∷ refuses 5 (flat Cubic (pos 0)) 0 24
+    ∷ refuses 13 (flat Cubic (pos 0)) 0 24
+    -- nor these, of quadratics: 0,0,8 started, halved twice, doubled back and stepped; 8,0,0, which starts at 8; a floor below 0
+    ∷ leads Quadratic 11 (bend (pos 0) (pos 0) (pos 8)) 0 [] 0 0 0 (pos 0) (pos 1048576) (pos 524288) (pos 0)
+    ∷ leads Quadratic 11 (bend (pos 0) (pos 0) (pos 8)) 0 (halve ∷ halve ∷ []) 0 2 0 (pos 0) (pos 1048576) (pos 131072) (pos 0)
+    ∷ leads Quadratic 11 (bend (pos 0) (pos 0) (pos 8)) 0 (halve ∷ halve ∷ double ∷ []) 0 1 0 (pos 0) (pos 1048576) (pos 262144) (pos 0)
+    ∷ leads Quadratic 11 (bend (pos 0) (pos 0) (pos 8)) 0 (halve ∷ halve ∷ step ∷ []) 0 2 512 (pos 0) (pos 1048576) (pos 393216) (pos 32768)
+    ∷ leads Quadratic 11 (bend (pos 8) (pos 0) (pos 0)) 0 [] 0 0 0 (pos 0) (pos 1048576) (negsuc 524287) (pos 524288)
+    ∷ leads Quadratic 11 (bend (pos 0) (pos 0) (negsuc 0)) 11 (step ∷ []) 0 11 1 (pos 0) (negsuc 131071) (negsuc 95) (negsuc 0)
+    -- there and back, with 5 at the end; 6 at finest level 6, 5 at q = 4,096
+    ∷ leads Quadratic 11 (bend (pos 0) (pos 4) (pos 0)) 0 (halve ∷ step ∷ []) 0 1 1024 (pos 0) (negsuc 1048575) (negsuc 262143) (pos 131072)
+    ∷ leads Quadratic 11 (bend (pos 0) (pos 4) (pos 0)) 1 (step ∷ step ∷ step ∷ []) 5 1 2048 (pos 0) (negsuc 1048575) (negsuc 786431) (pos 0)
+    ∷ leads Quadratic 6 (bend (pos 0) (pos 31) (pos 0)) 4 (halve ∷ halve ∷ halve ∷ []) 6 6 0 (pos 0) (negsuc 8126463) (pos 3999744) (pos 0)
+    ∷ leads Quadratic 12 (bend (negsuc 1022) (pos 0) (negsuc 1022)) 2 (step ∷ step ∷ step ∷ step ∷ step ∷ []) 5 2 4096 (pos 0) (negsuc 268173311) (negsuc 167608319) (negsuc 67043327)
+    -- neighbours 1,023 and 1,024 apart, at finest level 6 31 and 32
+    ∷ begins Quadratic 11 (bend (pos 0) (pos 1023) (pos 1023)) 0 0 11
+    ∷ begins Quadratic 11 (bend (pos 0) (pos 1024) (pos 1024)) 0 2 0
+    ∷ begins Quadratic 6 (bend (pos 0) (pos 0) (pos 31)) 6 0 6
+    ∷ begins Quadratic 6 (bend (pos 0) (pos 0) (pos 32)) 6 2 0
+    ∷ begins Quadratic 11 (flat Quadratic (pos 16383)) 12 3 0
+    ∷ begins Quadratic 11 (flat Quadratic (pos 16384)) 0 1 0
+    ∷ begins Quadratic 5 (flat Quadratic (pos 0)) 0 24 0
     ∷ []
 
 -- ---- one test for all
@@ -239,5 +273,5 @@ right-holds w t =
     }
 
 pub starred : All Holds table
-unfolding table started startRefusal isFinest reach everyCoordinate areCoordinates areNear isCoordinate areNeighbours isLevel curve startRegisters called callRefusal gate isDrawing isAligned registersRefusal turned turn areRegisters
+unfolding table started startRefusal beginRefusal isFinest reach everyCoordinate areCoordinates areNear isCoordinate areNeighbours isLevel curve startRegisters called callRefusal gate isDrawing isAligned registersRefusal turned turn areRegisters
 starred = tested Holds right right-holds table tt

@@ -3,10 +3,11 @@ use mathlib.Core.Path.{_≡_, refl, ap}
 use mathlib.Core.Option.{none}
 use Prim.Native.Nat.{ℕ}
 use lib.IntN.{pos}
+use Rattle.rules.specs.declared.Degree.{Degree}
 use Rattle.rules.specs.Refusals.{Among, firstOf}
 use Rattle.rules.proofs.Refusals.{number-answered, refused-answers}
-use Rattle.coordinate.specs.declared.Control.{Control}
-use Rattle.coordinate.specs.Course.{cubic}
+use Rattle.coordinate.specs.Control.{Control}
+use Rattle.coordinate.specs.Curve.{curve}
 use Rattle.coordinate.specs.Registers.{Operation}
 use Rattle.operations.specs.Coordinates.{Coordinate}
 use Rattle.operations.specs.Refusals.{callRefusal, registersRefusal, callTable, startRefusal, startTable, choiceRefusal, choiceTable, standardTable}
@@ -39,12 +40,12 @@ refused-call-changes-nothing op d = moved-refused (firstOf (callRefusal (d .fine
 
 -- ---- the start
 
-pub start-refuses-as-tabled : (F : ℕ) (p : Coordinate → Control) (n : ℕ) → Among (started F p n .refusal) startTable
+pub start-refuses-as-tabled : (D : Degree) (F : ℕ) (p : Coordinate → Control D) (n : ℕ) → Among (started D F p n .refusal) startTable
 unfolding started
-start-refuses-as-tabled F p n = rw moved-refusal (start-among F p n)
+start-refuses-as-tabled D F p n = rw moved-refusal (start-among D F p n)
 
-pub refused-start-gives-zeros : (F : ℕ) (p : Coordinate → Control) (n : ℕ) → (started F p n .refusal ≡ 0 → ⊥)
-    → started F p n .drawing
+pub refused-start-gives-zeros : (D : Degree) (F : ℕ) (p : Coordinate → Control D) (n : ℕ) → (started D F p n .refusal ≡ 0 → ⊥)
+    → started D F p n .drawing
     ≡ record {
       finest = 0;
       level = 0;
@@ -54,7 +55,7 @@ pub refused-start-gives-zeros : (F : ℕ) (p : Coordinate → Control) (n : ℕ)
       width = record { a = pos 0; b = pos 0; c = pos 0; d = pos 0 };
     }
 unfolding started
-refused-start-gives-zeros F p n = moved-refused (startRefusal F p n) nothingDrawn (firstDrawing F (λ c. cubic (p c)) n)
+refused-start-gives-zeros D F p n = moved-refused (startRefusal D F p n) nothingDrawn (firstDrawing F (λ c. curve D (p c)) n)
 
 -- ---- choosing
 

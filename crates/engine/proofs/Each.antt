@@ -2,7 +2,7 @@
 use mathlib.Core.Path.{_≡_, refl}
 use Prim.Native.Nat.{ℕ, zero, suc}
 use Rattle.rules.specs.Refusals.{firstOf}
-use Rattle.coordinate.specs.Course.{Course}
+use Rattle.coordinate.specs.Curve.{Curve}
 use Rattle.coordinate.specs.Registers.{Operation, startRegisters, turn}
 use Rattle.coordinate.specs.Shown.{pixel}
 use Rattle.operations.specs.Coordinates.{Coordinate, in-x, in-y, in-width, pick}
@@ -12,10 +12,10 @@ use Rattle.engine.specs.Drawing.{of, turned, moved, called}
 use Rattle.engine.specs.Start.{firstDrawing}
 use Rattle.engine.specs.Shown.{point}
 
-pub first-of : (F : ℕ) (p : Coordinate → Course) (n : ℕ) (c : Coordinate) → of c (firstDrawing F p n) ≡ startRegisters n (p c .curve)
-first-of F p n in-x = refl
-first-of F p n in-y = refl
-first-of F p n in-width = refl
+pub first-of : (F : ℕ) (f : Coordinate → Curve) (n : ℕ) (c : Coordinate) → of c (firstDrawing F f n) ≡ startRegisters n (f c)
+first-of F f n in-x = refl
+first-of F f n in-y = refl
+first-of F f n in-width = refl
 
 pub turned-of : (op : Operation) (d : Drawing) (c : Coordinate) → of c (turned op d) ≡ turn op (d .level) (of c d)
 unfolding turned

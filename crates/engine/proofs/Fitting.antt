@@ -23,6 +23,11 @@ told t =
       d = record { sfits = t .1 .1 .1 .0 .1 };
     }
 
+-- and of three
+pub told-three : {p q r : ℤ} {A B C E : Type 0} → ((A × (mag p < 2 ^ 31)) × ((B × (mag q < 2 ^ 31)) × ((C × (mag r < 2 ^ 31)) × E)))
+    → SFits w32 p × SFits w32 q × SFits w32 r
+told-three t = (record { sfits = t .0 .1 }, record { sfits = t .1 .0 .1 }, record { sfits = t .1 .1 .0 .1 })
+
 -- the widened registers, as the machine holds them
 pub record Widened (w : Wide) (r : Registers) : Type 0 where
   pub a : Num 2147483648 (r .a)

@@ -2,10 +2,11 @@
 -- first, and 10 by a new register last.
 use mathlib.Core.Path.{_≡_, _∙_}
 use Prim.Native.Nat.{ℕ}
+use Rattle.rules.specs.declared.Degree.{Degree}
 use Rattle.rules.specs.Refusals.{firstOf}
 use Rattle.rules.proofs.Refusals.{first-on, first-stop, answers}
-use Rattle.coordinate.specs.declared.Control.{Control}
-use Rattle.coordinate.specs.Course.{cubic}
+use Rattle.coordinate.specs.Control.{Control}
+use Rattle.coordinate.specs.Curve.{curve}
 use Rattle.coordinate.specs.Registers.{Operation}
 use Rattle.coordinate.proofs.Bits.{AllWithin}
 use Rattle.operations.specs.Coordinates.{Coordinate}
@@ -16,9 +17,9 @@ use Rattle.engine.specs.Drawing.{of, turned, refused, called}
 use Rattle.engine.specs.Start.{nothingDrawn, firstDrawing, started}
 use Rattle.engine.proofs.Demand1.{moved-refusal}
 
-pub start-number : (F : ℕ) (p : Coordinate → Control) (n : ℕ) → started F p n .refusal ≡ startRefusal F p n
+pub start-number : (D : Degree) (F : ℕ) (p : Coordinate → Control D) (n : ℕ) → started D F p n .refusal ≡ startRefusal D F p n
 unfolding started
-start-number F p n = moved-refusal (startRefusal F p n) nothingDrawn (firstDrawing F (λ c. cubic (p c)) n)
+start-number D F p n = moved-refusal (startRefusal D F p n) nothingDrawn (firstDrawing F (λ c. curve D (p c)) n)
 
 module _ (op : Operation) (d : Drawing) where
   call-number : called op d .refusal ≡ firstOf (callRefusal (d .finest) op (d .level) (d .q)) (registersRefusal (λ c. of c (turned op d)))

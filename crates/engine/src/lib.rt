@@ -1,10 +1,13 @@
 // The drawing engine: start, halve, double, step, choosing the next operation, and the point shown.
 mod choosing;
+mod cubic;
+mod quadratic;
 mod refusals;
 mod starting;
 mod turning;
 
 ghost use mathlib.Core.Path.{_≡_};
+ghost use Rattle.rules.specs.declared.Degree.the-variants as degree;
 ghost use Rattle.rules.specs.Rules.{standardUpper, standardLower};
 ghost use Rattle.coordinate.specs.Registers.{halve, double, step};
 ghost use Rattle.operations.specs.Coordinates.{pick};
@@ -14,8 +17,13 @@ ghost use Rattle.engine.specs.Choice.{said, choice};
 ghost use Rattle.engine.specs.Shown.{point};
 use choosing::doubled_increment_of;
 use choosing::increment_of;
-use coordinate::Control;
+use coordinate::Cubic;
+use coordinate::Quadratic;
 use coordinate::Registers;
+use cubic::cubic_curve;
+use cubic::cubic_refusal;
+use quadratic::quadratic_curve;
+use quadratic::quadratic_refusal;
 use refusals::choice_refusal;
 use refusals::double_refusal;
 use refusals::gate;
@@ -23,9 +31,8 @@ use refusals::halve_refusal;
 use refusals::is_aligned;
 use refusals::stride;
 use rules::Limits;
+use starting::first_of;
 use starting::nothing;
-use starting::start_one;
-use starting::start_refusal;
 use turning::double_one;
 use turning::halve_one;
 use turning::land;
@@ -65,24 +72,43 @@ pub struct Shown {
 }
 
 impl Drawing {
-    // The drawing at the start of a curve, at a finest level from 6 to 12. Refuses 24, 1, 2, 3, with every number of the drawing 0.
-    pub fn start(x: Control, y: Control, width: Control, finest: u32, level: u32) -> Moved
-        ensures { λ r. ⌜ r ≡ started finest (pick x y width) level ⌝ }
+    // The drawing at the start of a cubic, at a finest level from 6 to 12. Refuses 24, 1, 2, 3, with every number of the drawing 0.
+    pub fn start(x: Cubic, y: Cubic, width: Cubic, finest: u32, level: u32) -> Moved
+        ensures { λ r. ⌜ r ≡ started degree.Cubic finest (pick x y width) level ⌝ }
     {
-        let refusal = start_refusal(x, y, width, finest, level);
+        let refusal = cubic_refusal(x, y, width, finest, level);
         if refusal != 0 {
             return refuse(refusal, nothing());
         }
+        let x = cubic_curve(x);
+        let y = cubic_curve(y);
+        let width = cubic_curve(width);
         Moved {
             refusal: 0,
-            drawing: Drawing {
-                finest: finest,
-                level: level,
-                q: 0,
-                x: start_one(x, level),
-                y: start_one(y, level),
-                width: start_one(width, level),
-            },
+            drawing: first_of(x, y, width, finest, level),
+        }
+    }
+
+    // The same of a quadratic: a drawing does not know its degree. Refuses 24, 1, 2, 3.
+    pub fn start_quadratic(
+        x: Quadratic,
+        y: Quadratic,
+        width: Quadratic,
+        finest: u32,
+        level: u32,
+    ) -> Moved
+        ensures { λ r. ⌜ r ≡ started degree.Quadratic finest (pick x y width) level ⌝ }
+    {
+        let refusal = quadratic_refusal(x, y, width, finest, level);
+        if refusal != 0 {
+            return refuse(refusal, nothing());
+        }
+        let x = quadratic_curve(x);
+        let y = quadratic_curve(y);
+        let width = quadratic_curve(width);
+        Moved {
+            refusal: 0,
+            drawing: first_of(x, y, width, finest, level),
         }
     }
 

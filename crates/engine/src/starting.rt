@@ -1,31 +1,35 @@
-// The start of a drawing: its refusals, and the registers of one coordinate.
+// The start of a drawing, from the coefficients of its curves: what its refusals have in common, and the registers of one coordinate.
 ghost use mathlib.Core.Path.{_≡_};
-ghost use mathlib.Core.Bool.{true};
 ghost use Prim.Native.Nat.{_≤_};
-ghost use Rattle.rules.specs.Rules.{mostFinest, mostReach};
-ghost use Rattle.coordinate.specs.Curve.{curve};
-ghost use Rattle.coordinate.specs.Points.{areCoordinates, areNear};
+ghost use Rattle.rules.specs.Rules.{mostFinest};
+ghost use Rattle.coordinate.specs.Curve.{Mild};
 ghost use Rattle.coordinate.specs.Registers.{startRegisters};
 ghost use Rattle.operations.specs.Coordinates.{pick};
-ghost use Rattle.operations.specs.Refusals.{startRefusal};
-ghost use Rattle.engine.specs.Start.{nothingDrawn};
+ghost use Rattle.operations.specs.Refusals.{beginRefusal};
+ghost use Rattle.engine.specs.Start.{nothingDrawn, firstDrawing};
+ghost use Rattle.engine.specs.Coefficients.{curveOf};
 use crate::Drawing;
-use coordinate::Control;
 use coordinate::Registers;
 
-pub(crate) fn start_refusal(x: Control, y: Control, width: Control, finest: u32, level: u32) -> u32
-    ensures { λ r. ⌜ r ≡ startRefusal finest (pick x y width) level ⌝ }
+// The coefficients A, B, C and D of one coordinate's curve.
+pub(crate) struct Coefficients {
+    pub(crate) a: i32,
+    pub(crate) b: i32,
+    pub(crate) c: i32,
+    pub(crate) d: i32,
+}
+
+// By whether all points are coordinates, and all neighbours near.
+pub(crate) fn begin_refusal(finest: u32, inside: bool, near: bool, level: u32) -> u32
+    ensures { λ r. ⌜ r ≡ beginRefusal finest inside near level ⌝ }
 {
     if !rules::finest(finest) {
         return 24;
     }
-    let inside = coordinates(x) & coordinates(y) & coordinates(width);
     if !inside {
         return 1;
     }
-    let reach = rules::reach(finest);
-    let close = near(reach, x) & near(reach, y) & near(reach, width);
-    if !close {
+    if !near {
         return 2;
     }
     if !rules::level(finest, level) {
@@ -34,38 +38,38 @@ pub(crate) fn start_refusal(x: Control, y: Control, width: Control, finest: u32,
     0
 }
 
-fn coordinates(p: Control) -> bool
-    ensures { λ r. ⌜ r ≡ areCoordinates p ⌝ }
+pub(crate) fn first_of(
+    x: Coefficients,
+    y: Coefficients,
+    width: Coefficients,
+    finest: u32,
+    level: u32,
+) -> Drawing
+    requires { ⌜ (level ≤ mostFinest) × Mild (curveOf x) × Mild (curveOf y) × Mild (curveOf width) ⌝ }
+    ensures { λ r. ⌜ r ≡ firstDrawing finest (pick (curveOf x) (curveOf y) (curveOf width)) level ⌝ }
 {
-    rules::coordinate(p.p0)
-        & rules::coordinate(p.p1)
-        & rules::coordinate(p.p2)
-        & rules::coordinate(p.p3)
+    Drawing {
+        finest: finest,
+        level: level,
+        q: 0,
+        x: start_one(x, level),
+        y: start_one(y, level),
+        width: start_one(width, level),
+    }
 }
 
-fn near(reach: u32, p: Control) -> bool
-    ensures { λ r. ⌜ r ≡ areNear reach p ⌝ }
+// The coefficients are small: every sum here fits 32 bits.
+fn start_one(f: Coefficients, n: u32) -> Registers
+    requires { ⌜ (n ≤ mostFinest) × Mild (curveOf f) ⌝ }
+    ensures { λ r. ⌜ r ≡ startRegisters n (curveOf f) ⌝ }
 {
-    rules::neighbours(reach, p.p0, p.p1)
-        & rules::neighbours(reach, p.p1, p.p2)
-        & rules::neighbours(reach, p.p2, p.p3)
-}
-
-// By the differences of neighbours, which are small: every sum here fits 32 bits.
-pub(crate) fn start_one(p: Control, n: u32) -> Registers
-    requires { ⌜ (n ≤ mostFinest) × (areCoordinates p ≡ true) × (areNear mostReach p ≡ true) ⌝ }
-    ensures { λ r. ⌜ r ≡ startRegisters n (curve p) ⌝ }
-{
-    let first = p.p1 - p.p0;
-    let second = p.p2 - p.p1;
-    let third = p.p3 - p.p2;
-    let cubic = 65536 * (third - 2 * second + first);
-    let square = 65536 * (3 * (second - first));
-    let linear = 65536 * (3 * first);
+    let cubic = 65536 * f.a;
+    let square = 65536 * f.b;
+    let linear = 65536 * f.c;
     let a = (6 * cubic) >> n;
     let b = a + 2 * square;
     let c = linear + ((square + (cubic >> n)) >> n);
-    let d = 65536 * p.p0;
+    let d = 65536 * f.d;
     Registers {
         a: a,
         b: b,

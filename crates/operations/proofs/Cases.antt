@@ -8,16 +8,17 @@ use lib.Dec.{eqb, eqb→eq}
 use lib.IntN.{ℤ, pos, negsuc}
 use Rattle.numbers.specs.Tables.{All}
 use Rattle.numbers.proofs.Tables.{tested}
+use Rattle.rules.specs.declared.Degree.the-variants.{Quadratic, Cubic}
 use Rattle.rules.specs.Refusals.{firstOf}
 use Rattle.rules.specs.Rules.{isFinest, reach, isCoordinate, areNeighbours, isLevel, areLimits}
 use Rattle.coordinate.specs.declared.Registers.{Registers}
-use Rattle.coordinate.specs.declared.Control.{Control}
+use Rattle.coordinate.specs.Control.{Control}
 use Rattle.coordinate.specs.Points.{areCoordinates, areNear}
 use Rattle.coordinate.specs.Registers.{Operation, halve, double, step, turn, areRegisters}
 use Rattle.coordinate.specs.Increment.{increment, doubledIncrement}
 use Rattle.operations.specs.Coordinates.{pick, every}
 use Rattle.operations.specs.Position.{isDrawing, isAligned, newLevel, newPosition}
-use Rattle.operations.specs.Refusals.{startRefusal, gate, callRefusal, registersRefusal, choiceRefusal}
+use Rattle.operations.specs.Refusals.{beginRefusal, startRefusal, gate, callRefusal, registersRefusal, choiceRefusal}
 use Rattle.operations.specs.Choice.{wantsHalve, wantsDouble, choose}
 
 abbrev registers : ℤ → ℤ → ℤ → ℤ → Registers
@@ -149,17 +150,27 @@ abbrev still-at : ℕ → Operation → ℕ → ℕ → ℕ
 still-at F op n q = at F op n q zeros zeros zeros
 
 -- a start, its points of y and of the width given
-abbrev line : ℤ → ℤ → ℤ → ℤ → Control
+abbrev line : ℤ → ℤ → ℤ → ℤ → Control Cubic
 line p q r s = record { p0 = p; p1 = q; p2 = r; p3 = s }
 
-abbrev still : Control
+abbrev still : Control Cubic
 still = line (pos 0) (pos 0) (pos 0) (pos 0)
 
-abbrev start-at : ℕ → Control → Control → ℕ → ℕ
-start-at F y width n = startRefusal F (pick still y width) n
+abbrev start-at : ℕ → Control Cubic → Control Cubic → ℕ → ℕ
+start-at F y width n = startRefusal Cubic F (pick still y width) n
 
-abbrev start : Control → Control → ℕ → ℕ
+abbrev start : Control Cubic → Control Cubic → ℕ → ℕ
 start = start-at 11
+
+-- and of a quadratic
+abbrev bend : ℤ → ℤ → ℤ → Control Quadratic
+bend p q r = record { p0 = p; p1 = q; p2 = r }
+
+abbrev rest : Control Quadratic
+rest = bend (pos 0) (pos 0) (pos 0)
+
+abbrev start-quadratic : ℕ → Control Quadratic → Control Quadratic → ℕ → ℕ
+start-quadratic F y width n = startRefusal Quadratic F (pick rest y width) n
 
 abbrev outside : Registers
 outside = registers (pos 2147483647) (negsuc 2147483647) (pos 0) (pos 0)
@@ -257,6 +268,23 @@ numbers =
     ∷ answer (start-at 12 (line (pos 682) (pos 0) (pos 0) (pos 0)) still 13) 3
     ∷ answer (start-at 12 (line (pos 683) (pos 0) (pos 0) (pos 0)) still 13) 2
     ∷ answer (choiceRefusal 12 65536 32768 0 4096) 5
+    -- a quadratic's start: 1, then 2, then 3, by y and by the width; by F = 6 and F = 12; 24 before 1
+    ∷ answer (start-quadratic 11 (bend (pos 16384) (pos 0) (pos 0)) rest 12) 1
+    ∷ answer (start-quadratic 11 (bend (pos 0) (negsuc 16384) (pos 0)) rest 12) 1
+    ∷ answer (start-quadratic 11 (bend (pos 0) (pos 0) (negsuc 16384)) rest 0) 1
+    ∷ answer (start-quadratic 11 (bend (pos 1024) (pos 0) (pos 0)) (bend (pos 0) (pos 0) (pos 16384)) 12) 1
+    ∷ answer (start-quadratic 11 (bend (pos 1024) (pos 0) (pos 0)) rest 12) 2
+    ∷ answer (start-quadratic 11 (bend (pos 0) (pos 0) (negsuc 1023)) rest 0) 2
+    ∷ answer (start-quadratic 11 rest (bend (pos 0) (pos 1024) (pos 1024)) 0) 2
+    ∷ answer (start-quadratic 11 (bend (pos 1023) (pos 0) (pos 0)) rest 12) 3
+    ∷ answer (start-quadratic 11 (bend (pos 1023) (pos 0) (pos 1023)) (bend (pos 0) (negsuc 1022) (pos 0)) 11) 0
+    ∷ answer (start-quadratic 6 (bend (pos 31) (pos 0) (pos 31)) rest 6) 0
+    ∷ answer (start-quadratic 6 (bend (pos 32) (pos 0) (pos 0)) rest 7) 2
+    ∷ answer (start-quadratic 6 (bend (pos 31) (pos 0) (pos 0)) rest 7) 3
+    ∷ answer (start-quadratic 12 (bend (pos 1023) (pos 0) (pos 0)) rest 12) 0
+    ∷ answer (start-quadratic 12 (bend (pos 1024) (pos 0) (pos 0)) rest 13) 2
+    ∷ answer (start-quadratic 5 rest rest 0) 24
+    ∷ answer (start-quadratic 13 (bend (pos 16384) (pos 0) (pos 0)) rest 0) 24
     -- 24 before 1; 4 before 10
     ∷ answer (start-at 5 (line (pos 16384) (pos 0) (pos 0) (pos 0)) still 0) 24
     ∷ answer (start-at 13 still still 0) 24
@@ -271,6 +299,6 @@ abbrev answered-so : Answer → Bool
 answered-so w = eqb (w .answered) (w .number)
 
 pub answered-as-listed : All Answers numbers
-unfolding numbers startRefusal isFinest reach every areCoordinates areNear isCoordinate areNeighbours isLevel areLimits callRefusal gate isDrawing isAligned
+unfolding numbers startRefusal beginRefusal isFinest reach every areCoordinates areNear isCoordinate areNeighbours isLevel areLimits callRefusal gate isDrawing isAligned
     registersRefusal turn areRegisters choiceRefusal
 answered-as-listed = tested Answers answered-so (λ w t. eqb→eq (w .answered) (w .number) t) numbers tt

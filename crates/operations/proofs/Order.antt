@@ -1,23 +1,25 @@
 -- The order of the refusals, each with its number: what is broken, and what is kept before it.
-use mathlib.Core.Path.{_≡_}
+use mathlib.Core.Path.{_≡_, refl}
 use mathlib.Core.Bool.{true}
-use Prim.Native.Nat.{ℕ, _-_, _/_, _^_, _≤_, _<_, min}
+use Prim.Native.Nat.{ℕ, _^_, _≤_, _<_}
 use native.Mathlib.Omega.{arith}
 use lib.Dec.{leb}
 use borrow.Author.Tests.{leb-true, eqb-true, le-leb, lt-ltb, le-ltb, eq-eqb}
+use Rattle.rules.specs.declared.Degree.{Degree}
+use Rattle.rules.specs.declared.Degree.the-variants.{Quadratic, Cubic}
 use Rattle.rules.specs.Rules.{isFinest, reach, isLevel, areLimits}
 use Rattle.rules.proofs.Laws.{Fine, finest-holds, holds-finest, LawfulLimits, limits-hold, hold-limits}
 use Rattle.rules.proofs.Refusals.{broken}
 use Rattle.coordinate.specs.declared.Registers.{Registers}
-use Rattle.coordinate.specs.declared.Control.{Control}
+use Rattle.coordinate.specs.Control.{Control}
 use Rattle.coordinate.specs.Points.{areCoordinates, areNear}
 use Rattle.coordinate.specs.Registers.{Operation, halve, double, step, areRegisters}
 use Rattle.coordinate.proofs.Points.{Each, Lies, coordinates-lie, lying-coordinates, Reach, reaches, reaching-near}
 use Rattle.coordinate.proofs.Bits.{AllWithin, registers-within, within-registers}
 use Rattle.operations.specs.Coordinates.{Coordinate, every}
 use Rattle.operations.specs.Position.{isDrawing, isAligned}
-use Rattle.operations.specs.Refusals.{startRefusal, gate, callRefusal, registersRefusal, choiceRefusal}
-use Rattle.operations.specs.Lawful.{Inside, Even}
+use Rattle.operations.specs.Refusals.{beginRefusal, startRefusal, gate, callRefusal, registersRefusal, choiceRefusal}
+use Rattle.operations.specs.Lawful.{Inside, Even, apart}
 use Rattle.operations.proofs.Every.{every-true, true-every}
 use Rattle.operations.proofs.Gates.{inside, is-drawing}
 
@@ -72,48 +74,52 @@ module _ (new : Coordinate → Registers) where
 
 -- ---- a start: 24, then 1 over all points of every coordinate, then 2, then 3
 
-module _ (F : ℕ) (p : Coordinate → Control) (n : ℕ) where
-  pub start-refuses-24 : (Fine F → ⊥) → startRefusal F p n ≡ 24
-  unfolding startRefusal
+-- the reach is what the documents say
+pub apart-reach : (D : Degree) (F : ℕ) → apart D F ≡ reach D F
+unfolding reach
+apart-reach Quadratic F = refl
+apart-reach Cubic F = refl
+
+module _ (D : Degree) (F : ℕ) (p : Coordinate → Control D) (n : ℕ) where
+  pub start-refuses-24 : (Fine F → ⊥) → startRefusal D F p n ≡ 24
+  unfolding startRefusal beginRefusal
   start-refuses-24 h = rw (broken (isFinest F) (λ e. h (finest-holds F e)))
 
   module _ (fine : Fine F) where
-    pub start-refuses-1 : (((c : Coordinate) → Each Lies (p c)) → ⊥) → startRefusal F p n ≡ 1
-    unfolding startRefusal
+    pub start-refuses-1 : (((c : Coordinate) → Each D Lies (p c)) → ⊥) → startRefusal D F p n ≡ 1
+    unfolding startRefusal beginRefusal
     start-refuses-1 h =
         rw (
           holds-finest fine,
-          broken (every (λ c. areCoordinates (p c))) (λ e. h (λ c. coordinates-lie (p c) (every-true (λ c. areCoordinates (p c)) e c))),
+          broken (every (λ c. areCoordinates D (p c))) (λ e. h (λ c. coordinates-lie D (p c) (every-true (λ c. areCoordinates D (p c)) e c))),
         )
 
-    module _ (points : (c : Coordinate) → Each Lies (p c)) where
-      all-lie : every (λ c. areCoordinates (p c)) ≡ true
-      all-lie = true-every (λ c. areCoordinates (p c)) (λ c. lying-coordinates (p c) (points c))
+    module _ (points : (c : Coordinate) → Each D Lies (p c)) where
+      all-lie : every (λ c. areCoordinates D (p c)) ≡ true
+      all-lie = true-every (λ c. areCoordinates D (p c)) (λ c. lying-coordinates D (p c) (points c))
 
-      -- the reach in the document's words: the smaller of 682 and the floor of (2^F − 2)/3
       abbrev Near : Type 0
-      Near = (c : Coordinate) → Reach (min 682 ((2 ^ F - 2) / 3)) (p c)
+      Near = (c : Coordinate) → Reach D (apart D F) (p c)
 
-      pub start-refuses-2 : (Near → ⊥) → startRefusal F p n ≡ 2
-      unfolding startRefusal reach
+      pub start-refuses-2 : (Near → ⊥) → startRefusal D F p n ≡ 2
+      unfolding startRefusal beginRefusal
       start-refuses-2 h =
           rw (
             holds-finest fine,
             all-lie,
-            broken (every (λ c. areNear (reach F) (p c))) (λ e. h (λ c. reaches (reach F) (p c) (every-true (λ c. areNear (reach F) (p c)) e c))),
+            broken (every (λ c. areNear D (reach D F) (p c))) (λ e. h (λ c. rw (apart-reach D F) (reaches D (reach D F) (p c) (every-true (λ c. areNear D (reach D F) (p c)) e c)))),
           )
 
       module _ (steps : Near) where
-        all-near : every (λ c. areNear (reach F) (p c)) ≡ true
-        unfolding reach
-        all-near = true-every (λ c. areNear (reach F) (p c)) (λ c. reaching-near (reach F) (p c) (steps c))
+        all-near : every (λ c. areNear D (reach D F) (p c)) ≡ true
+        all-near = true-every (λ c. areNear D (reach D F) (p c)) (λ c. reaching-near D (reach D F) (p c) (rw (apart-reach D F) at (steps c)))
 
-        pub start-refuses-3 : F < n → startRefusal F p n ≡ 3
-        unfolding startRefusal isLevel
+        pub start-refuses-3 : F < n → startRefusal D F p n ≡ 3
+        unfolding startRefusal beginRefusal isLevel
         start-refuses-3 h = rw (holds-finest fine, all-lie, all-near, broken (leb n F) (λ e. omega (arith, leb-true n F e, h)))
 
-        pub start-accepted : n ≤ F → startRefusal F p n ≡ 0
-        unfolding startRefusal isLevel
+        pub start-accepted : n ≤ F → startRefusal D F p n ≡ 0
+        unfolding startRefusal beginRefusal isLevel
         start-accepted h = rw (holds-finest fine, all-lie, all-near, le-leb n F h)
 
 -- ---- choosing: 4, 10 by F, level and q, 5

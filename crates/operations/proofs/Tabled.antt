@@ -4,11 +4,12 @@ use mathlib.Core.List.{List, [], _∷_}
 use Prim.Native.Nat.{ℕ, _^_}
 use lib.Dec.{ltb}
 use Rattle.numbers.specs.Tables.{All}
+use Rattle.rules.specs.declared.Degree.{Degree}
 use Rattle.rules.specs.Refusals.{Among, firstOf}
 use Rattle.rules.specs.Rules.{isFinest, reach, areLimits, isLevel}
 use Rattle.rules.proofs.Refusals.{line-among, among, first-among, untabled}
 use Rattle.coordinate.specs.declared.Registers.{Registers}
-use Rattle.coordinate.specs.declared.Control.{Control}
+use Rattle.coordinate.specs.Control.{Control}
 use Rattle.coordinate.specs.Points.{areCoordinates, areNear}
 use Rattle.coordinate.specs.Registers.{Operation, halve, double, step, areRegisters}
 use Rattle.operations.specs.Coordinates.{Coordinate, every}
@@ -19,6 +20,7 @@ use Rattle.operations.specs.Refusals.{
   callRefusal,
   registersRefusal,
   callTable,
+  beginRefusal,
   startRefusal,
   startTable,
   choiceRefusal,
@@ -65,15 +67,15 @@ call-nothing-else F step n q new = untabled (callTable step) (others step) (call
 
 -- ---- a start
 
-module _ (F : ℕ) (p : Coordinate → Control) (n : ℕ) where
-  pub start-among : Among (startRefusal F p n) startTable
-  unfolding startRefusal
+module _ (D : Degree) (F : ℕ) (p : Coordinate → Control D) (n : ℕ) where
+  pub start-among : Among (startRefusal D F p n) startTable
+  unfolding startRefusal beginRefusal
   start-among =
       line-among (isFinest F) (among tt)
-      (line-among (every (λ c. areCoordinates (p c))) (among tt)
-      (line-among (every (λ c. areNear (reach F) (p c))) (among tt) (line-among (isLevel F n) (among tt) (among tt))))
+      (line-among (every (λ c. areCoordinates D (p c))) (among tt)
+      (line-among (every (λ c. areNear D (reach D F) (p c))) (among tt) (line-among (isLevel F n) (among tt) (among tt))))
 
-  pub start-nothing-else : All (λ k. startRefusal F p n ≡ k → ⊥) (4 ∷ 5 ∷ 6 ∷ 7 ∷ 8 ∷ 9 ∷ 10 ∷ [])
+  pub start-nothing-else : All (λ k. startRefusal D F p n ≡ k → ⊥) (4 ∷ 5 ∷ 6 ∷ 7 ∷ 8 ∷ 9 ∷ 10 ∷ [])
   start-nothing-else = untabled startTable (4 ∷ 5 ∷ 6 ∷ 7 ∷ 8 ∷ 9 ∷ 10 ∷ []) start-among tt
 
 -- ---- choosing

@@ -1,25 +1,28 @@
 -- The refusals of a start, of the three operations and of choosing, each in the document's order. r are the registers of each coordinate, p its
 -- control points.
+use mathlib.Core.Bool.{Bool}
 use mathlib.Core.List.{List, [], _∷_}
 use Prim.Native.Nat.{ℕ, _^_}
 use lib.Dec.{ltb}
+use Rattle.rules.specs.declared.Degree.{Degree}
 use Rattle.rules.specs.Refusals.{unless, firstOf}
 use Rattle.rules.specs.Rules.{isFinest, reach, isLevel, areLimits}
 use Rattle.coordinate.specs.declared.Registers.{Registers}
-use Rattle.coordinate.specs.declared.Control.{Control}
+use Rattle.coordinate.specs.Control.{Control}
 use Rattle.coordinate.specs.Points.{areCoordinates, areNear}
 use Rattle.coordinate.specs.Registers.{Operation, halve, double, step, areRegisters}
 use Rattle.operations.specs.Coordinates.{Coordinate, every}
 use Rattle.operations.specs.Position.{isDrawing, isAligned}
 
--- ---- a start: 24, then 1 over all points of every coordinate, then 2 by the reach at F, then 3
+-- ---- a start: 24, then 1 over all points of every coordinate, then 2 by the reach of its degree at F, then 3
 
-unfoldable pub startRefusal : ℕ → (Coordinate → Control) → ℕ → ℕ
-startRefusal F p n =
-    unless (isFinest F) 24
-    (unless (every (λ c. areCoordinates (p c))) 1
-    (unless (every (λ c. areNear (reach F) (p c))) 2
-    (unless (isLevel F n) 3 0)))
+-- by whether all points are coordinates, and all neighbours near
+unfoldable pub beginRefusal : ℕ → Bool → Bool → ℕ → ℕ
+beginRefusal F inside near n = unless (isFinest F) 24 (unless inside 1 (unless near 2 (unless (isLevel F n) 3 0)))
+
+unfoldable pub startRefusal : (D : Degree) → ℕ → (Coordinate → Control D) → ℕ → ℕ
+startRefusal D F p n =
+    beginRefusal F (every (λ c. areCoordinates D (p c))) (every (λ c. areNear D (reach D F) (p c))) n
 
 abbrev pub startTable : List ℕ
 startTable = 0 ∷ 1 ∷ 2 ∷ 3 ∷ 24 ∷ []

@@ -1,135 +1,69 @@
--- Every sum and product is below 2^31 since neighbours are at most 682 apart; what comes out is the start by `reckoned-start`.
+-- Every sum and product is below 2^31 since the coefficients are small; what comes out is the start by `reckoned-start`.
 use mathlib.Core.Path.{_∙_}
-use Prim.Native.Nat.{ℕ}
-use lib.IntN.{pos, _+ℤ_, _-ℤ_, _*ℤ_}
+use Prim.Native.Nat.{ℕ, _≤_}
+use lib.IntN.{ℤ, pos, natAbs, _+ℤ_, _*ℤ_}
 use mir.Syntax.{w32}
 use borrow.Author.Needs.{needs}
-use Rattle.numbers.proofs.Machine.{Num, known, tighter, literal, local, shift, plus, minus, times, fits}
-use Rattle.coordinate.specs.declared.Control.{Control}
+use Rattle.numbers.proofs.Machine.{Num, known, literal, local, shift, plus, times, fits}
+use Rattle.numbers.proofs.Size.{Size}
+use Rattle.coordinate.specs.Curve.{Curve}
 use Rattle.coordinate.specs.Registers.{_>>_, unit}
-use Rattle.rules.specs.Rules.{mostReach}
-use Rattle.coordinate.proofs.Points.{Extent, extent, Reach, reaches}
-use Rattle.coordinate.proofs.Start.{cubic, square, linear, reckoned-start}
+use Rattle.coordinate.proofs.Start.{reckoned-start}
+use Rattle.engine.specs.Coefficients.{curveOf}
 use Rattle.engine.proofs.starting.start_one.Statement.{statement}
 use Rattle.engine.proofs.starting.start_one.Tie as tie
 
-abbrev p : tie.Start → Control
-p c = c .args .p
+abbrev f : tie.Start → Curve
+f c = curveOf (c .args .f)
 
 abbrev n : tie.Start → ℕ
 n c = c .args .n
 
-at-points : (c : tie.Start) → Extent 16384 (p c)
-at-points c = extent (p c) (c .pre .1)
-
-of-steps : (c : tie.Start) → Reach mostReach (p c)
-of-steps c = reaches mostReach (p c) (c .pre .2)
+small : (z : ℤ) {m : ℕ} → natAbs z ≤ m → Size z m
+small z h = record { le = h }
 
 -- ---- the numbers of the code
 
-abbrev first : (c : tie.Start) → Num 32768 (p c .p1 -ℤ p c .p0)
-first c = minus (known w32 tt (at-points c .p1)) (known w32 tt (at-points c .p0))
+abbrev cubic : (c : tie.Start) → Num 178782208 (unit *ℤ f c .A)
+cubic c = times (literal 65536) (known w32 tt (small (f c .A) (c .pre .1 .A)))
 
-abbrev second : (c : tie.Start) → Num 32768 (p c .p2 -ℤ p c .p1)
-second c = minus (known w32 tt (at-points c .p2)) (known w32 tt (at-points c .p1))
+abbrev square : (c : tie.Start) → Num 268173312 (unit *ℤ f c .B)
+square c = times (literal 65536) (known w32 tt (small (f c .B) (c .pre .1 .B)))
 
-abbrev third : (c : tie.Start) → Num 32768 (p c .p3 -ℤ p c .p2)
-third c = minus (known w32 tt (at-points c .p3)) (known w32 tt (at-points c .p2))
+abbrev linear : (c : tie.Start) → Num 134086656 (unit *ℤ f c .C)
+linear c = times (literal 65536) (known w32 tt (small (f c .C) (c .pre .1 .C)))
 
-abbrev v1 : (c : tie.Start) → Num 682 (p c .p1 -ℤ p c .p0)
-v1 c = local w32 tt (tighter (of-steps c .first) (first c))
+abbrev six-cubic : (c : tie.Start) → Num 1072693248 (pos 6 *ℤ (unit *ℤ f c .A))
+six-cubic c = times (literal 6) (local w32 tt (cubic c))
 
-abbrev v2 : (c : tie.Start) → Num 682 (p c .p2 -ℤ p c .p1)
-v2 c = local w32 tt (tighter (of-steps c .second) (second c))
-
-abbrev v3 : (c : tie.Start) → Num 682 (p c .p3 -ℤ p c .p2)
-v3 c = local w32 tt (tighter (of-steps c .third) (third c))
-
-abbrev twice-v2 : (c : tie.Start) → Num 1364 (pos 2 *ℤ (p c .p2 -ℤ p c .p1))
-twice-v2 c = times (literal 2) (v2 c)
-
-abbrev v3-2v2 : (c : tie.Start) → Num 2046 ((p c .p3 -ℤ p c .p2) -ℤ pos 2 *ℤ (p c .p2 -ℤ p c .p1))
-v3-2v2 c = minus (v3 c) (local w32 tt (twice-v2 c))
-
-abbrev A : (c : tie.Start) → Num 2728 ((p c .p3 -ℤ p c .p2) -ℤ pos 2 *ℤ (p c .p2 -ℤ p c .p1) +ℤ (p c .p1 -ℤ p c .p0))
-A c = plus (local w32 tt (v3-2v2 c)) (v1 c)
-
-abbrev cubic-of : (c : tie.Start) → Num 178782208 (cubic (p c))
-cubic-of c = times (literal 65536) (local w32 tt (A c))
-
-abbrev v2-v1 : (c : tie.Start) → Num 1364 ((p c .p2 -ℤ p c .p1) -ℤ (p c .p1 -ℤ p c .p0))
-v2-v1 c = minus (v2 c) (v1 c)
-
-abbrev B : (c : tie.Start) → Num 4092 (pos 3 *ℤ ((p c .p2 -ℤ p c .p1) -ℤ (p c .p1 -ℤ p c .p0)))
-B c = times (literal 3) (local w32 tt (v2-v1 c))
-
-abbrev square-of : (c : tie.Start) → Num 268173312 (square (p c))
-square-of c = times (literal 65536) (local w32 tt (B c))
-
-abbrev C : (c : tie.Start) → Num 2046 (pos 3 *ℤ (p c .p1 -ℤ p c .p0))
-C c = times (literal 3) (v1 c)
-
-abbrev linear-of : (c : tie.Start) → Num 134086656 (linear (p c))
-linear-of c = times (literal 65536) (local w32 tt (C c))
-
-abbrev six-cubic : (c : tie.Start) → Num 1072693248 (pos 6 *ℤ cubic (p c))
-six-cubic c = times (literal 6) (local w32 tt (cubic-of c))
-
-abbrev a : (c : tie.Start) → Num 1072693248 ((pos 6 *ℤ cubic (p c)) >> n c)
+abbrev a : (c : tie.Start) → Num 1072693248 ((pos 6 *ℤ (unit *ℤ f c .A)) >> n c)
 a c = local w32 tt (shift (n c) (local w32 tt (six-cubic c)))
 
-abbrev twice-square : (c : tie.Start) → Num 536346624 (pos 2 *ℤ square (p c))
-twice-square c = times (literal 2) (local w32 tt (square-of c))
+abbrev twice-square : (c : tie.Start) → Num 536346624 (pos 2 *ℤ (unit *ℤ f c .B))
+twice-square c = times (literal 2) (local w32 tt (square c))
 
-abbrev b : (c : tie.Start) → Num 1609039872 (((pos 6 *ℤ cubic (p c)) >> n c) +ℤ pos 2 *ℤ square (p c))
+abbrev b : (c : tie.Start) → Num 1609039872 (((pos 6 *ℤ (unit *ℤ f c .A)) >> n c) +ℤ pos 2 *ℤ (unit *ℤ f c .B))
 b c = plus (a c) (local w32 tt (twice-square c))
 
-abbrev inner : (c : tie.Start) → Num 446955520 (square (p c) +ℤ (cubic (p c) >> n c))
-inner c = plus (local w32 tt (square-of c)) (local w32 tt (shift (n c) (local w32 tt (cubic-of c))))
+abbrev inner : (c : tie.Start) → Num 446955520 (unit *ℤ f c .B +ℤ ((unit *ℤ f c .A) >> n c))
+inner c = plus (local w32 tt (square c)) (local w32 tt (shift (n c) (local w32 tt (cubic c))))
 
-abbrev outer : (c : tie.Start) → Num 581042176 (linear (p c) +ℤ ((square (p c) +ℤ (cubic (p c) >> n c)) >> n c))
-outer c = plus (local w32 tt (linear-of c)) (local w32 tt (shift (n c) (local w32 tt (inner c))))
+abbrev outer : (c : tie.Start) → Num 581042176 (unit *ℤ f c .C +ℤ ((unit *ℤ f c .B +ℤ ((unit *ℤ f c .A) >> n c)) >> n c))
+outer c = plus (local w32 tt (linear c)) (local w32 tt (shift (n c) (local w32 tt (inner c))))
 
-abbrev d : (c : tie.Start) → Num 1073741824 (unit *ℤ p c .p0)
-d c = times (literal 65536) (known w32 tt (at-points c .p0))
+abbrev d : (c : tie.Start) → Num 1073741824 (unit *ℤ f c .D)
+d c = times (literal 65536) (known w32 tt (small (f c .D) (c .pre .1 .D)))
 
 -- ---- what the code asks
 
-sub-first : tie.Need-sub-first
-sub-first c = fits tt (first (c .before .before))
-
-sub-second : tie.Need-sub-second
-sub-second c = fits tt (second (c .before .before .before .before))
-
-sub-third : tie.Need-sub-third
-sub-third c = fits tt (third (c .before .before .before .before .before .before))
-
 mul-cubic : tie.Need-mul-cubic
-mul-cubic c = fits tt (twice-v2 (c .before .before .before .before .before .before))
-
-sub-cubic : tie.Need-sub-cubic
-sub-cubic c = fits tt (v3-2v2 (c .before .before .before .before .before .before))
-
-add-cubic : tie.Need-add-cubic
-add-cubic c = fits tt (A (c .before .before .before .before .before .before))
-
-mul-cubic-2 : tie.Need-mul-cubic-2
-mul-cubic-2 c = fits tt (cubic-of (c .before .before .before .before .before .before))
-
-sub-square : tie.Need-sub-square
-sub-square c = fits tt (v2-v1 (c .before .before .before .before .before .before))
+mul-cubic c = fits tt (cubic (c .before .before))
 
 mul-square : tie.Need-mul-square
-mul-square c = fits tt (B (c .before .before .before .before .before .before))
-
-mul-square-2 : tie.Need-mul-square-2
-mul-square-2 c = fits tt (square-of (c .before .before .before .before .before .before))
+mul-square c = fits tt (square (c .before .before .before .before))
 
 mul-linear : tie.Need-mul-linear
-mul-linear c = fits tt (C (c .before .before .before .before .before .before))
-
-mul-linear-2 : tie.Need-mul-linear-2
-mul-linear-2 c = fits tt (linear-of (c .before .before .before .before .before .before))
+mul-linear c = fits tt (linear (c .before .before .before .before .before .before))
 
 mul-a : tie.Need-mul-a
 mul-a c = fits tt (six-cubic (c .before .before .before .before .before .before))
@@ -171,24 +105,15 @@ returns : tie.Need-returns
 returns c =
     let s = c .before .before .before .before .before .before .before .before in
     (λ i. record { a = a s .is i; b = local w32 tt (b s) .is i; c = local w32 tt (outer s) .is i; d = local w32 tt (d s) .is i })
-    ∙ reckoned-start (n s) (p s)
+    ∙ reckoned-start (n s) (f s)
 
 pub start-one-spec : {M : Type 1} → statement M
 start-one-spec =
     tie.close
     (tie.spec
-    sub-first
-    sub-second
-    sub-third
     mul-cubic
-    sub-cubic
-    add-cubic
-    mul-cubic-2
-    sub-square
     mul-square
-    mul-square-2
     mul-linear
-    mul-linear-2
     mul-a
     cast-a
     shr-a

@@ -6,8 +6,8 @@ use borrow.Author.Needs.{needs}
 use Rattle.rules.specs.Rules.{isCoordinate}
 use Rattle.coordinate.specs.Points.{areCoordinates}
 use Rattle.engine.proofs.Fitting.{told}
-use Rattle.engine.proofs.starting.coordinates.Statement.{statement}
-use Rattle.engine.proofs.starting.coordinates.Tie as tie
+use Rattle.engine.proofs.cubic.coordinates.Statement.{statement}
+use Rattle.engine.proofs.cubic.coordinates.Tie as tie
 
 coordinate-requires : tie.Need-coordinate-requires
 coordinate-requires c κs = search needs

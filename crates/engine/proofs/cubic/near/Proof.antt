@@ -6,8 +6,8 @@ use borrow.Author.Needs.{needs}
 use Rattle.rules.specs.Rules.{areNeighbours}
 use Rattle.coordinate.specs.Points.{areNear}
 use Rattle.engine.proofs.Fitting.{told}
-use Rattle.engine.proofs.starting.near.Statement.{statement}
-use Rattle.engine.proofs.starting.near.Tie as tie
+use Rattle.engine.proofs.cubic.near.Statement.{statement}
+use Rattle.engine.proofs.cubic.near.Tie as tie
 
 neighbours-requires : tie.Need-neighbours-requires
 neighbours-requires c κs = search needs
