@@ -16,7 +16,6 @@ use Rattle.coordinate.specs.Curve.{Curve}
 use Rattle.coordinate.specs.Registers.{Operation, halve, double, step}
 use Rattle.engine.specs.Drawing.{turned, moved, called}
 use Rattle.coordinate.proofs.Turns.{start-on}
-use Rattle.coordinate.specs.Course.{Course}
 use Rattle.engine.specs.Start.{firstDrawing}
 use Rattle.engine.proofs.Each.{first-of}
 use Rattle.distance.specs.Calls.{after, gain, travelled, ruled}
@@ -26,16 +25,16 @@ use Rattle.distance.proofs.Kept.{Kept, kept-turned, call-settled}
 
 -- ---- the start
 
-pub first-kept : (F : ℕ) (p : Coordinate → Course) (n : ℕ) → Fine F → n ≤ F → Kept F (λ c. p c .curve) (firstDrawing F p n)
-first-kept F p n f l =
+pub first-kept : (F : ℕ) (f : Coordinate → Curve) (n : ℕ) → Fine F → n ≤ F → Kept F f (firstDrawing F f n)
+first-kept F f n fine l =
     let levels : n + (F - n) ≡ F = add-sub-of-le l in
     let G : 2 ^ F ≡ 2 ^ n * 2 ^ (F - n) = ap (λ (k : ℕ). 2 ^ k) (sym levels) ∙ pow-add 2 n (F - n) in
     record {
-      fine = f;
+      fine = fine;
       finest = refl;
       below = F - n;
       levels = levels;
-      on = λ c. rw (first-of F p n c) (start-on (2 ^ (16 - F)) (2 ^ F) (p c .curve) n (F - n) (scale F (omega (arith, f .most))) G);
+      on = λ c. rw (first-of F f n c) (start-on (2 ^ (16 - F)) (2 ^ F) (f c) n (F - n) (scale F (omega (arith, fine .most))) G);
     }
 
 -- ---- one call and lists of calls

@@ -1,19 +1,21 @@
--- Demand 3, as one theorem over every curve and start level that are accepted and every list of calls, refused ones included.
+-- Demand 3, as one theorem over both degrees, every finest level, every curve and start level that are accepted and every list of calls, refused ones
+-- included.
 use mathlib.Core.Path.{_≡_, refl, sym, ap, _∙_}
 use mathlib.Core.Bool.{true}
 use mathlib.Core.List.{List}
 use Prim.Native.Nat.{ℕ, zero, suc, _^_, _≤_, _<_}
 use native.Mathlib.Nat.{zero-add}
 use native.Mathlib.Omega.{arith}
+use Rattle.rules.specs.declared.Degree.{Degree}
 use Rattle.rules.specs.Rules.{reach, areLimits}
 use Rattle.rules.proofs.Laws.{Fine}
 use Rattle.rules.proofs.Reaches.{reach-most, reach-room}
-use Rattle.coordinate.specs.declared.Control.{Control}
-use Rattle.coordinate.specs.Course.{Course, cubic}
+use Rattle.coordinate.specs.Control.{Control}
+use Rattle.coordinate.specs.Course.{Course, course}
 use Rattle.coordinate.specs.Registers.{Operation, halve, double, areRegisters}
 use Rattle.coordinate.proofs.Points.{extent, reaches}
 use Rattle.coordinate.proofs.Sizes.{Tame}
-use Rattle.coordinate.proofs.Cubic.{cubic-tame}
+use Rattle.coordinate.proofs.Tame.{tame}
 use Rattle.coordinate.proofs.Stands.{Bounded, bounded, stands}
 use Rattle.coordinate.proofs.Stands as coordinate
 use Rattle.operations.specs.Coordinates.{Coordinate}
@@ -40,14 +42,15 @@ pub record Reached (F : ℕ) (p : Coordinate → Course) (d : Drawing) (along : 
   pub parameter : d .q ≡ along
 
 pub reached : (F : ℕ) (p : Coordinate → Course) (n : ℕ) → Fine F → n ≤ F → ((c : Coordinate) → Tame F (p c)) → (ops : List Operation)
-    → Reached F p (after ops (firstDrawing F p n)) (travelled ops (firstDrawing F p n))
+    → let d = firstDrawing F (λ c. p c .curve) n in Reached F p (after ops d) (travelled ops d)
 reached F p n f l tame ops =
     let fits : (c : Coordinate) → Bounded F (p c .curve) = λ c. bounded F (p c) (f .most) (tame c) in
-    let k = first-kept F p n f l in
+    let d = firstDrawing F (λ c. p c .curve) n in
+    let k = first-kept F (λ c. p c .curve) n f l in
     record {
       tame = tame;
-      kept = after-kept F (λ c. p c .curve) fits ops (firstDrawing F p n) k;
-      parameter = after-travelled F (λ c. p c .curve) fits ops (firstDrawing F p n) k ∙ zero-add (travelled ops (firstDrawing F p n));
+      kept = after-kept F (λ c. p c .curve) fits ops d k;
+      parameter = after-travelled F (λ c. p c .curve) fits ops d k ∙ zero-add (travelled ops d);
     }
 
 -- ---- demand 3 holds of it
@@ -93,30 +96,30 @@ module _ (F : ℕ) (p : Coordinate → Course) (d : Drawing) (along : ℕ) (r : 
         goes = next-goes;
       }
 
--- ---- from an accepted start
+-- ---- from an accepted start, of either degree
 
-pub start-tame : (F : ℕ) (p : Coordinate → Control) (n : ℕ) → Accepted F p n → (c : Coordinate) → Tame F (cubic (p c))
-start-tame F p n a c =
-    cubic-tame F (reach F) (p c) (omega (arith, a .fine .most)) (reach-most F) (reach-room F (a .fine)) (extent (p c) (a .coordinates c))
-    (reaches (reach F) (p c) (a .near c))
+pub start-tame : (D : Degree) (F : ℕ) (p : Coordinate → Control D) (n : ℕ) → Accepted D F p n → (c : Coordinate) → Tame F (course D (p c))
+start-tame D F p n a c =
+    tame D F (reach D F) (p c) (omega (arith, a .fine .most)) (reach-most D F) (reach-room D F (a .fine)) (extent D (p c) (a .coordinates c))
+    (reaches D (reach D F) (p c) (a .near c))
 
-pub demand-3 : (F : ℕ) (p : Coordinate → Control) (n : ℕ) → startRefusal F p n ≡ 0 → (ops : List Operation)
-    → Demand3 F (λ c. cubic (p c)) (after ops (started F p n .drawing)) (travelled ops (started F p n .drawing))
-demand-3 F p n e ops =
-    let a = accepted F p n e in
-    rw (start-begins F p n e) (meets F (λ c. cubic (p c)) _ _ (reached F (λ c. cubic (p c)) n (a .fine) (a .level) (start-tame F p n a) ops))
+pub demand-3 : (D : Degree) (F : ℕ) (p : Coordinate → Control D) (n : ℕ) → startRefusal D F p n ≡ 0 → (ops : List Operation)
+    → Demand3 F (λ c. course D (p c)) (after ops (started D F p n .drawing)) (travelled ops (started D F p n .drawing))
+demand-3 D F p n e ops =
+    let a = accepted D F p n e in
+    rw (start-begins D F p n e) (meets F (λ c. course D (p c)) _ _ (reached F (λ c. course D (p c)) n (a .fine) (a .level) (start-tame D F p n a) ops))
 
 -- ---- in the demand's own numbers
 
-pub in-numbers : (p : Coordinate → Control) (n : ℕ) → startRefusal 11 p n ≡ 0 → (ops : List Operation)
-    → Eleven p (after ops (started 11 p n .drawing)) (travelled ops (started 11 p n .drawing))
-in-numbers p n e ops =
-    let t = demand-3 11 p n e ops in
+pub in-numbers : (D : Degree) (p : Coordinate → Control D) (n : ℕ) → startRefusal D 11 p n ≡ 0 → (ops : List Operation)
+    → Eleven D p (after ops (started D 11 p n .drawing)) (travelled ops (started D 11 p n .drawing))
+in-numbers D p n e ops =
+    let t = demand-3 D 11 p n e ops in
     let i = inside 11 _ _ (t .inside) in
     record {
       finest = t .finest;
       parameter = t .parameter;
       level = i .level;
       position = i .position;
-      stands = λ c. coordinate.in-numbers (p c) _ _ (t .stands c);
+      stands = λ c. coordinate.in-numbers D (p c) _ _ (t .stands c);
     }

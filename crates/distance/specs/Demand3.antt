@@ -3,8 +3,9 @@
 use mathlib.Core.Path.{_≡_}
 use mathlib.Core.Bool.{true}
 use Prim.Native.Nat.{ℕ, _^_, _≤_, _<_}
+use Rattle.rules.specs.declared.Degree.{Degree}
 use Rattle.rules.specs.Rules.{areLimits}
-use Rattle.coordinate.specs.declared.Control.{Control}
+use Rattle.coordinate.specs.Control.{Control}
 use Rattle.coordinate.specs.Course.{Course}
 use Rattle.coordinate.specs.Registers.{Operation, halve, double, areRegisters}
 use Rattle.coordinate.specs.Stands.{Stands, InNumbers}
@@ -39,9 +40,9 @@ pub record Demand3 (F : ℕ) (p : Coordinate → Course) (d : Drawing) (along : 
 
 -- ---- at F = 11, in the demand's own numbers; p are the control points, and less than 6,144/65,536 is in `InNumbers`
 
-pub record Eleven (p : Coordinate → Control) (d : Drawing) (along : ℕ) : Type 0 where
+pub record Eleven (D : Degree) (p : Coordinate → Control D) (d : Drawing) (along : ℕ) : Type 0 where
   pub finest : d .finest ≡ 11
   pub parameter : d .q ≡ along
   pub level : d .level ≤ 11
   pub position : d .q ≤ 2048
-  pub stands : (c : Coordinate) → InNumbers (p c) (d .q) (of c d)
+  pub stands : (c : Coordinate) → InNumbers D (p c) (d .q) (of c d)
