@@ -1,6 +1,7 @@
 // Runs the worked cases of document 01 through the public functions of the drawer and of the engine, and prints the numbers that the
-// document gives; a case of order 8, in which the width alone moves; and A at the finest levels 6 and 12 of order 9.
-use coordinate::Control;
+// document gives; a case of order 8, in which the width alone moves; A at the finest levels 6 and 12 of order 9; and a quadratic path of order 10.
+use coordinate::Cubic;
+use coordinate::Quadratic;
 use coordinate::Registers;
 use engine::Drawing;
 use engine::Moved;
@@ -8,6 +9,7 @@ use entries::Entry;
 use entries::Found;
 use path::Drawn;
 use path::Shape;
+use rules::Degree;
 use rules::Limits;
 
 const OUT: i32 = 1;
@@ -32,12 +34,15 @@ fn main() {
     lane(b"order 8", curve(0, 682, 1364, 2046));
     listing(b"order 9", curve(0, 1, 2, 3), 6, 0);
     listing(b"order 9", curve(0, 1, 2, 3), 12, 0);
+    outline(b"order 10");
+    verdict(b"order 10", start_quadratic(bend(0, 1023, 0)).refusal);
+    verdict(b"order 10", start_quadratic(bend(0, 1024, 0)).refusal);
 }
 
 // ---- the curves: x as given, y and the width 0 throughout
 
-fn curve(p0: i32, p1: i32, p2: i32, p3: i32) -> Control {
-    Control {
+fn curve(p0: i32, p1: i32, p2: i32, p3: i32) -> Cubic {
+    Cubic {
         p0: p0,
         p1: p1,
         p2: p2,
@@ -45,20 +50,32 @@ fn curve(p0: i32, p1: i32, p2: i32, p3: i32) -> Control {
     }
 }
 
-fn flat(p: i32) -> Control {
+fn flat(p: i32) -> Cubic {
     curve(p, p, p, p)
 }
 
-fn kink(p: i32) -> Control {
+fn kink(p: i32) -> Cubic {
     curve(0, p, p, p)
 }
 
-fn start(x: Control, level: u32) -> Moved {
+fn start(x: Cubic, level: u32) -> Moved {
     Drawing::start(x, flat(0), flat(0), 11, level)
 }
 
+fn bend(p0: i32, p1: i32, p2: i32) -> Quadratic {
+    Quadratic {
+        p0: p0,
+        p1: p1,
+        p2: p2,
+    }
+}
+
+fn start_quadratic(x: Quadratic) -> Moved {
+    Drawing::start_quadratic(x, bend(0, 0, 0), bend(0, 0, 0), 11, 0)
+}
+
 // Cases C to F.
-fn operations(x: Control) {
+fn operations(x: Cubic) {
     let c = start(x, 0);
     let d = c.drawing.halve();
     let d2 = d.drawing.halve();
@@ -80,7 +97,7 @@ fn steep(name: &[u8], p: i32, given: u32) {
 }
 
 // Cases A, B, K and L, and A at other finest levels: a path of one segment, drawn; its positions and its x.
-fn listing(name: &[u8], x: Control, finest: u32, level: u32) -> Drawn {
+fn listing(name: &[u8], x: Cubic, finest: u32, level: u32) -> Drawn {
     let mut list = [0i32; 64];
     let drawn = draw(x, flat(0), finest, level, &mut list);
     column(name, b" positions", &list, drawn.points, 0);
@@ -89,7 +106,7 @@ fn listing(name: &[u8], x: Control, finest: u32, level: u32) -> Drawn {
 }
 
 // A width alone: its positions, its widths, and a length of 0.
-fn lane(name: &[u8], width: Control) {
+fn lane(name: &[u8], width: Cubic) {
     let mut list = [0i32; 64];
     let drawn = draw(flat(0), width, 11, 0, &mut list);
     column(name, b" positions", &list, drawn.points, 0);
@@ -97,7 +114,7 @@ fn lane(name: &[u8], width: Control) {
     totals(name, drawn);
 }
 
-fn draw(x: Control, width: Control, finest: u32, level: u32, list: &mut [i32]) -> Drawn {
+fn draw(x: Cubic, width: Cubic, finest: u32, level: u32, list: &mut [i32]) -> Drawn {
     let points = [
         x.p0,
         0,
@@ -113,15 +130,36 @@ fn draw(x: Control, width: Control, finest: u32, level: u32, list: &mut [i32]) -
         width.p3,
     ];
     let shape = Shape {
+        degree: Degree::Cubic,
         segments: 1,
         finest: finest,
         level: level,
     };
-    let limits = Limits {
+    drawer::draw(&points, shape, limits(), list)
+}
+
+// Two quadratic segments, x at 0, 1, 2 and then at 2, 4, 6; its positions, its x, and its length.
+fn outline(name: &[u8]) {
+    let mut list = [0i32; 64];
+    let points = [0, 0, 0, 1, 0, 0, 2, 0, 0, 4, 0, 0, 6, 0, 0];
+    let shape = Shape {
+        degree: Degree::Quadratic,
+        segments: 2,
+        finest: 11,
+        level: 0,
+    };
+    let drawn = drawer::draw(&points, shape, limits(), &mut list);
+    column(name, b" positions", &list, drawn.points, 0);
+    column(name, b" x", &list, drawn.points, 1);
+    totals(name, drawn);
+}
+
+// Those of A.
+fn limits() -> Limits {
+    Limits {
         upper: 65536,
         lower: 32768,
-    };
-    drawer::draw(&points, shape, limits, list)
+    }
 }
 
 // ---- lines

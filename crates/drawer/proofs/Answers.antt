@@ -40,7 +40,7 @@ added-length t (e ∷ es) = omega (arith, added-length (added t e) es)
 tally-answers : (p : Path) → record { refusal = 0; points = tally p .points; length = tally p .length } ≡ answer (entries p)
 unfolding tally entries begun lengthOf
 tally-answers p =
-    let e = entry (p .finest) 0 (first (p .finest) (p .points) (p .level) 0) in
+    let e = entry (p .finest) 0 (first (p .degree) (p .finest) (p .points) (p .level) 0) in
     let es = following p 0 (p .segments) in
     let n : tally p .points ≡ suc (length es) = added-points (begun e) es ∙ omega arith in
     λ i. record { refusal = 0; points = n i; length = (added-length (begun e) es ∙ zero-add (lengthFrom e es)) i }

@@ -3,7 +3,7 @@ use mathlib.Core.Path.{_≡_, refl, sym, ap, _∙_, subst}
 use mathlib.Core.List.{List, [], _∷_, _++_}
 use mathlib.Core.Option.{Option, none, some, Option·some-ne-none}
 use Prim.Native.Nat.{ℕ, zero, suc, _+_, _-_, _*_, _^_, _≤_, _<_}
-use native.Mathlib.Nat.{le-refl, sub-zero}
+use native.Mathlib.Nat.{le-refl, sub-zero, mul-le-mul-left}
 use native.Mathlib.Omega.{arith}
 use lib.Dec.{ltb}
 use lib.IntN.{ℤ}
@@ -42,11 +42,13 @@ use Rattle.drawer.proofs.Due.{Due, due-here, due-then, due-by, due-show
 -- ---- the start of each segment
 
 pub segment-ready : (points : List ℤ) (shape : Shape) (limits : Limits) → pathRefusal (path points shape limits) ≡ 0 → (k : ℕ) → k < shape .segments
-    → Ready points shape k
+    → Ready (shape .degree) (shape .finest) points (shape .level) k
 segment-ready points shape limits e k h =
     let p = path points shape limits in
     let l = accepted-lawful p e in
-    record { few = omega arith; inside = omega (arith, point-inside l 2 (degree * k + degree) (omega arith) (omega arith)); accepted = segment-accepted p e k h }
+    let D = degree (shape .degree) in
+    let last : D * k + D ≤ D * shape .segments = omega (arith, mul-le-mul-left D h) in
+    record { few = omega arith; inside = omega (arith, point-inside l 2 (D * k + D) (omega arith) last); accepted = segment-accepted p e k h }
 
 -- ---- what choosing answered
 
@@ -195,7 +197,7 @@ rest-end p k d kept h =
 abbrev pub onward : Path → ℕ → List Entry
 onward p k = following p k (p .segments - k)
 
-onward-more : (p : Path) (k : ℕ) → k < p .segments → onward p k ≡ rest p k (first (p .finest) (p .points) (p .level) k) ++ onward p (k + 1)
+onward-more : (p : Path) (k : ℕ) → k < p .segments → onward p k ≡ rest p k (first (p .degree) (p .finest) (p .points) (p .level) k) ++ onward p (k + 1)
 unfolding following
 onward-more p k h = let e : p .segments - k ≡ suc (p .segments - (k + 1)) = omega arith in rw e
 
@@ -214,7 +216,7 @@ outer-starts p l e t b =
     }
 
 pub inner-starts : {p : Path} {l l₀ : List ℤ} {t t₀ : Tally} {k k₀ : ℕ} → Outer p l t k l₀ t₀ k₀ → Sound p k
-    → (d : Drawing) → d ≡ first (p .finest) (p .points) (p .level) k → Inner p k (onward p (k + 1)) l t d l t d
+    → (d : Drawing) → d ≡ first (p .degree) (p .finest) (p .points) (p .level) k → Inner p k (onward p (k + 1)) l t d l t d
 inner-starts {p} {l} {t = t} {k = k} o sound d e =
     record {
       kept = subst (Of p k) (sym e) (sound .first);
@@ -225,7 +227,7 @@ inner-starts {p} {l} {t = t} {k = k} o sound d e =
 -- a segment has ended
 pub outer-goes : {p : Path} {l l₁ l₀ : List ℤ} {t t₁ t₀ : Tally} {k k₀ : ℕ} {d d₁ : Drawing}
     → Outer p l₁ t₁ k l₀ t₀ k₀ → k < p .segments
-    → d₁ ≡ first (p .finest) (p .points) (p .level) k → Inner p k (onward p (k + 1)) l t d l₁ t₁ d₁ → 2 ^ p .finest ≤ d .q → Outer p l t (k + 1) l₀ t₀ k₀
+    → d₁ ≡ first (p .degree) (p .finest) (p .points) (p .level) k → Inner p k (onward p (k + 1)) l t d l₁ t₁ d₁ → 2 ^ p .finest ≤ d .q → Outer p l t (k + 1) l₀ t₀ k₀
 outer-goes {p} {k = k} {d = d} o h e i end =
     record {
       most = omega arith;
@@ -237,7 +239,7 @@ outer-goes {p} {k = k} {d = d} o h e i end =
 
 -- after the last segment nothing is due: the tally and the list are the whole path's
 pub all-shown : (p : Path) (l₀ : List ℤ) {l l₁ : List ℤ} {t t₁ : Tally} {k : ℕ} → Outer p l t k l₁ t₁ 0 → p .segments ≤ k
-    → let e = entry (p .finest) 0 (first (p .finest) (p .points) (p .level) 0) in
+    → let e = entry (p .finest) 0 (first (p .degree) (p .finest) (p .points) (p .level) 0) in
     t₁ ≡ begun e → l₁ ≡ sets l₀ 0 (numbers e) → (t ≡ tally p) × (l ≡ sets l₀ 0 (flat (entries p)))
 unfolding following tally entries addedAll begun flat
 all-shown p l₀ {l} {l₁} {t} {t₁} {k} o h b s =

@@ -4,21 +4,21 @@ use mathlib.Core.List.{List, [], _∷_}
 use Prim.Native.Nat.{ℕ, _+_, _*_, _^_, _≤_, _<_}
 use lib.IntN.{ℤ}
 use lib.ListN.{length}
+use Rattle.rules.specs.declared.Degree.{Degree}
 use Rattle.rules.specs.Rules.{mostFinest, degree, coordinates, mostSegments}
 use Rattle.operations.specs.Refusals.{startRefusal}
 use Rattle.engine.specs.declared.Drawing.{Drawing}
 use Rattle.entries.specs.declared.Entry.{Entry}
 use Rattle.entries.specs.Length.{moveLength}
 use Rattle.drawer.specs.declared.Tally.{Tally}
-use Rattle.path.specs.declared.Shape.{Shape}
 use Rattle.path.specs.Path.{Path, controls, first}
 use Rattle.path.specs.Entries.{entry, following}
 
 -- the start of segment k can be read, and is accepted
-pub record Ready (points : List ℤ) (shape : Shape) (k : ℕ) : Type 0 where
+pub record Ready (D : Degree) (F : ℕ) (points : List ℤ) (level k : ℕ) : Type 0 where
   pub few : k < mostSegments
-  pub inside : coordinates * (degree * k + degree + 1) ≤ length points
-  pub accepted : startRefusal (shape .finest) (controls points k) (shape .level) ≡ 0
+  pub inside : coordinates * (degree D * k + degree D + 1) ≤ length points
+  pub accepted : startRefusal D F (controls D points k) level ≡ 0
 
 -- a drawing of segment k whose position on the path fits 32 bits
 pub record Placed (d : Drawing) (k : ℕ) : Type 0 where
@@ -43,4 +43,4 @@ addedAll t [] = t
 addedAll t (e ∷ es) = addedAll (added t e) es
 
 unfoldable pub tally : Path → Tally
-tally p = addedAll (begun (entry (p .finest) 0 (first (p .finest) (p .points) (p .level) 0))) (following p 0 (p .segments))
+tally p = addedAll (begun (entry (p .finest) 0 (first (p .degree) (p .finest) (p .points) (p .level) 0))) (following p 0 (p .segments))

@@ -81,13 +81,14 @@ pub fn measure_standard(points: &[i32], shape: Shape) -> Drawn
 fn refusal_of(points: &[i32], shape: Shape, limits: Limits) -> u32
     ensures { λ r. ⌜ r ≡ pathRefusal (path (now (points .entry)) shape limits) ⌝ }
 {
-    if !rules::size(shape.segments, points.len()) {
+    let degree = shape.degree;
+    if !rules::size(degree, shape.segments, points.len()) {
         return 14;
     }
     if !rules::finest(shape.finest) {
         return 24;
     }
-    let refusal = rules::points_refusal(rules::reach(shape.finest), points);
+    let refusal = rules::points_refusal(rules::reach(degree, shape.finest), points);
     if refusal != 0 {
         return refusal;
     }
@@ -142,9 +143,9 @@ fn run(points: &[i32], shape: Shape, limits: Limits, list: &mut [i32]) -> Tally
 
 // The start, with its entry.
 fn begin(points: &[i32], shape: Shape, list: &mut [i32]) -> Tally
-    requires { ⌜ Ready (now points) shape 0 ⌝ }
-    ensures { λ r. ⌜ r ≡ begun (entry (shape .finest) 0 (first (shape .finest) (now (points .entry)) (shape .level) 0)) ⌝ }
-    ensures { λ _. ⌜ now (list .exit) ≡ sets (now (list .entry)) 0 (numbers (entry (shape .finest) 0 (first (shape .finest) (now (points .entry)) (shape .level) 0))) ⌝ }
+    requires { ⌜ Ready (shape .degree) (shape .finest) (now points) (shape .level) 0 ⌝ }
+    ensures { λ r. ⌜ r ≡ begun (entry (shape .finest) 0 (first (shape .degree) (shape .finest) (now (points .entry)) (shape .level) 0)) ⌝ }
+    ensures { λ _. ⌜ now (list .exit) ≡ sets (now (list .entry)) 0 (numbers (entry (shape .finest) 0 (first (shape .degree) (shape .finest) (now (points .entry)) (shape .level) 0))) ⌝ }
 {
     let d = first_of(points, shape, 0);
     let start = entry_of(d, 0);

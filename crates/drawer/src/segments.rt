@@ -2,16 +2,18 @@
 ghost use mathlib.Core.Path.{_≡_};
 ghost use Prim.Native.Nat.{_+_, _*_, _≤_, _<_};
 ghost use lib.ListN.{length};
-ghost use Rattle.rules.specs.Rules.{degree, coordinates, mostSegments};
+ghost use Rattle.rules.specs.declared.Degree.the-variants as degree;
+ghost use Rattle.rules.specs.Rules.{coordinates, mostSegments};
 ghost use Rattle.path.specs.Path.{control, first};
 ghost use Rattle.path.specs.Entries.{entry};
 ghost use Rattle.drawer.specs.Tally.{Ready, Placed};
-use coordinate::Control;
+use coordinate::Cubic;
+use coordinate::Quadratic;
 use engine::Drawing;
 use entries::Entry;
 use path::Shape;
 use rules::COORDINATES;
-use rules::DEGREE;
+use rules::Degree;
 
 // The entry of a drawing of segment k.
 pub(crate) fn entry_of(d: Drawing, k: u32) -> Entry
@@ -30,22 +32,55 @@ pub(crate) fn entry_of(d: Drawing, k: u32) -> Entry
 
 // The drawing that segment k starts from.
 pub(crate) fn first_of(points: &[i32], shape: Shape, k: u32) -> Drawing
-    requires { ⌜ Ready (now points) shape k ⌝ }
-    ensures { λ r. ⌜ r ≡ first (shape .finest) (now (points .entry)) (shape .level) k ⌝ }
+    requires { ⌜ Ready (shape .degree) (shape .finest) (now points) (shape .level) k ⌝ }
+    ensures { λ r. ⌜ r ≡ first (shape .degree) (shape .finest) (now (points .entry)) (shape .level) k ⌝ }
 {
-    let x = control_of(points, 0, k);
-    let y = control_of(points, 1, k);
-    let width = control_of(points, 2, k);
-    Drawing::start(x, y, width, shape.finest, shape.level).drawing
+    let degree = shape.degree;
+    match degree {
+        Degree::Quadratic => first_quadratic(points, shape.finest, shape.level, k),
+        Degree::Cubic => first_cubic(points, shape.finest, shape.level, k),
+    }
+}
+
+fn first_quadratic(points: &[i32], finest: u32, level: u32, k: u32) -> Drawing
+    requires { ⌜ Ready degree.Quadratic finest (now points) level k ⌝ }
+    ensures { λ r. ⌜ r ≡ first degree.Quadratic finest (now (points .entry)) level k ⌝ }
+{
+    let x = quadratic_of(points, 0, k);
+    let y = quadratic_of(points, 1, k);
+    let width = quadratic_of(points, 2, k);
+    Drawing::start_quadratic(x, y, width, finest, level).drawing
+}
+
+fn first_cubic(points: &[i32], finest: u32, level: u32, k: u32) -> Drawing
+    requires { ⌜ Ready degree.Cubic finest (now points) level k ⌝ }
+    ensures { λ r. ⌜ r ≡ first degree.Cubic finest (now (points .entry)) level k ⌝ }
+{
+    let x = cubic_of(points, 0, k);
+    let y = cubic_of(points, 1, k);
+    let width = cubic_of(points, 2, k);
+    Drawing::start(x, y, width, finest, level).drawing
 }
 
 // Coordinate c of segment k's points.
-fn control_of(points: &[i32], c: usize, k: u32) -> Control
-    requires { ⌜ (c < coordinates) × (k < mostSegments) × (coordinates * (degree * k + degree + 1) ≤ length (now points)) ⌝ }
-    ensures { λ r. ⌜ r ≡ control (now (points .entry)) c k ⌝ }
+fn quadratic_of(points: &[i32], c: usize, k: u32) -> Quadratic
+    requires { ⌜ (c < coordinates) × (k < mostSegments) × (coordinates * (2 * k + 3) ≤ length (now points)) ⌝ }
+    ensures { λ r. ⌜ r ≡ control degree.Quadratic (now (points .entry)) c k ⌝ }
 {
-    let i = COORDINATES * (DEGREE * (k as usize)) + c;
-    Control {
+    let i = COORDINATES * (2 * k as usize) + c;
+    Quadratic {
+        p0: points[i],
+        p1: points[i + COORDINATES],
+        p2: points[i + 2 * COORDINATES],
+    }
+}
+
+fn cubic_of(points: &[i32], c: usize, k: u32) -> Cubic
+    requires { ⌜ (c < coordinates) × (k < mostSegments) × (coordinates * (3 * k + 4) ≤ length (now points)) ⌝ }
+    ensures { λ r. ⌜ r ≡ control degree.Cubic (now (points .entry)) c k ⌝ }
+{
+    let i = COORDINATES * (3 * k as usize) + c;
+    Cubic {
         p0: points[i],
         p1: points[i + COORDINATES],
         p2: points[i + 2 * COORDINATES],

@@ -37,10 +37,10 @@ path-among : (p : Path) {table : List ℕ} → Among 14 table → Among 24 table
     → Among (unless (areLimits (p .upper) (p .lower)) 4 0) table → Among (pathRefusal p) table
 unfolding pathRefusal pointsRefusal
 path-among p size finest points chained level none limits =
-    line-among (isSize (p .segments) (length (p .points))) size
+    line-among (isSize (p .degree) (p .segments) (length (p .points))) size
     (line-among (isFinest (p .finest)) finest
-    (first-among (pointsRefusal (reach (p .finest)) (p .points)) _
-    (line-among (arePoints (p .points)) points (line-among (areChained (reach (p .finest)) (p .points)) chained none))
+    (first-among (pointsRefusal (reach (p .degree) (p .finest)) (p .points)) _
+    (line-among (arePoints (p .points)) points (line-among (areChained (reach (p .degree) (p .finest)) (p .points)) chained none))
     (line-among (isLevel (p .finest) (p .level)) level limits)))
 
 -- and then 9

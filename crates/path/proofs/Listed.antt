@@ -18,10 +18,11 @@ use Rattle.entries.specs.Length.{lengthOf}
 use Rattle.entries.proofs.Length.{length-most}
 use Rattle.entries.proofs.Numbers.{length-flat}
 use Rattle.entries.proofs.Along.{last-append, linked-append, among-head, among-joined}
-use Rattle.path.specs.Path.{Path, pathRefusal, first}
+use Rattle.path.specs.Path.{Path, pathRefusal, pointAt, first}
 use Rattle.path.specs.Entries.{entry, rest, following, entries}
 use Rattle.path.specs.Listed.{corner, Follows, Placed, Listed, Most, InNumbers}
 use Rattle.path.proofs.Accepted.{accepted-lawful}
+use Rattle.path.proofs.Points.{corner-of}
 use Rattle.path.proofs.Segments.{Sound, sound, held-first}
 use Rattle.path.proofs.Spans.{entry-first, span-last, span-linked, span-count, placed-at, span-placed}
 use Rattle.path.proofs.Steps.{calls, calls-go, following-steps}
@@ -31,16 +32,16 @@ use Rattle.path.proofs.Near.{placed-near, near-in-numbers}
 
 module _ (p : Path) (good : (k : ℕ) → k < p .segments → Sound p k) where
   abbrev start : ℕ → Drawing
-  start k = first (p .finest) (p .points) (p .level) k
+  start k = first (p .degree) (p .finest) (p .points) (p .level) k
 
   abbrev at : ℕ → Entry
-  at k = corner (p .finest) (p .points) k
+  at k = corner (p .degree) (p .finest) (p .points) k
 
   start-shown : (k : ℕ) → k < p .segments → entry (p .finest) k (start k) ≡ at k
   unfolding first
   start-shown k l = entry-first p k (good k l) (start k) (good k l .first) refl
 
-  -- segment k goes from control point 3k to control point 3k + 3
+  -- segment k goes from control point Dk to control point Dk + D
   segment-last : (k : ℕ) → k < p .segments → lastOf (at k) (rest p k (start k)) ≡ at (k + 1)
   segment-last k l =
       ap (λ (e : Entry). lastOf e (rest p k (start k))) (sym (start-shown k l))
@@ -106,13 +107,13 @@ listed p e =
     let some = accepted-lawful p e .some in
     let good = sound p e in
     let es = following p 0 S in
-    let whole : entries p ≡ corner (p .finest) (p .points) 0 ∷ es = ap (λ (f : Entry). f ∷ es) (start-shown p good 0 some) in
+    let whole : entries p ≡ corner (p .degree) (p .finest) (p .points) 0 ∷ es = ap (λ (f : Entry). f ∷ es) (start-shown p good 0 some) in
     let count = following-count p good S 0 (omega arith) in
     let placed = entries-placed p good e some in
     record {
       after = es;
       starts = whole;
-      ends = following-last p good S 0 (omega arith) ∙ ap (corner (p .finest) (p .points)) (zero-add S);
+      ends = following-last p good S 0 (omega arith) ∙ ap (corner (p .degree) (p .finest) (p .points)) (zero-add S);
       corners = λ k l. rw whole (rw (zero-add k) at (following-corners p good S 0 k (omega arith) l));
       linked = following-linked p good S 0 (omega arith);
       placed = placed;
@@ -143,7 +144,10 @@ unfolding corner
 in-numbers p f e =
     let l = listed p e in
     record {
-      corners = λ k h. subst (λ (F : ℕ). Among (corner F (p .points) k) (entries p)) f (l .corners k h);
+      corners = λ k h.
+          subst (λ (i : ℕ). Among (record { position = pos (2048 * k); x = pointAt (p .points) 0 i; y = pointAt (p .points) 1 i; width = pointAt (p .points) 2 i }) (entries p))
+          (corner-of (p .degree) k)
+          (subst (λ (F : ℕ). Among (corner (p .degree) F (p .points) k) (entries p)) f (l .corners k h));
       near = all-weaker (λ e. near-in-numbers p e f) (entries p) (l .near);
       count = subst (λ (F : ℕ). length (entries p) ≤ 2 ^ F * p .segments + 1) f (l .count);
       total = subst (λ (F : ℕ). lengthOf (entries p) ≤ 1414 * (2 ^ F * p .segments)) f (l .total);

@@ -8,7 +8,8 @@ use lib.Dec.{leb}
 use lib.IntN.{ℤ, pos, _*ℤ_}
 use lib.Pow.{pow-pos}
 use borrow.Author.Tests.{leb-true, leb-false}
-use Rattle.coordinate.specs.declared.Control.{Control}
+use Rattle.rules.specs.declared.Degree.{Degree}
+use Rattle.coordinate.specs.Control.{Control}
 use Rattle.coordinate.specs.Curve.{curve, exact}
 use Rattle.coordinate.specs.Shown.{pixel}
 use Rattle.coordinate.proofs.Bernstein.{starts, ends}
@@ -18,26 +19,24 @@ use Rattle.operations.proofs.Gates.{inside}
 use Rattle.engine.specs.Drawing.{of}
 use Rattle.distance.specs.Calls.{after}
 use Rattle.entries.specs.declared.Entry.{Entry}
-use Rattle.path.specs.Path.{Path, pointAt, place, control, controls, courses}
+use Rattle.path.specs.Path.{Path, place, controls, courses}
 use Rattle.path.specs.Entries.{entry}
 use Rattle.path.specs.Listed.{begins, Placed, Within, Near, NearInNumbers}
-use Rattle.path.proofs.Points.{segment-uses}
+use Rattle.path.proofs.Points.{segment-uses, first-point, last-point}
 use Rattle.path.proofs.Turns.{by-test}
 
 -- ---- the exact curve at a position
 
-module _ (F : ℕ) (points : List ℤ) (c : Coordinate) where
+module _ (D : Degree) (F : ℕ) (points : List ℤ) (c : Coordinate) where
   abbrev exactAt : ℕ → ℕ → ℤ
-  exactAt k q = exact F (courses points k c .curve) q
+  exactAt k q = exact F (courses D points k c .curve) q
 
   -- a segment ends where the next one starts
   exact-joined : (k : ℕ) → exactAt k (2 ^ F) ≡ exactAt (k + 1) 0
-  unfolding control
   exact-joined k =
-      let next : 3 * k + 3 ≡ 3 * (k + 1) = omega arith in
-      ends F (controls points k c)
-      ∙ ap (λ (i : ℕ). pointAt points (place c) i *ℤ pos (2 ^ (3 * F))) next
-      ∙ sym (starts F (controls points (k + 1) c))
+      ends D F (controls D points k c)
+      ∙ ap (λ (z : ℤ). z *ℤ pos (2 ^ (3 * F))) (last-point D points (place c) k ∙ sym (first-point D points (place c) (k + 1)))
+      ∙ sym (starts D F (controls D points (k + 1) c))
 
   -- a position on segment k, and on segment k + j
   exact-further : (j k q q' : ℕ) → q ≤ 2 ^ F → q' ≤ 2 ^ F → 2 ^ F * k + q ≡ 2 ^ F * (k + j) + q' → exactAt k q ≡ exactAt (k + j) q'
@@ -79,8 +78,8 @@ placed-near p e l =
       position = ap (λ (f : Entry). f .position) (l .shown);
       inside = further (2 ^ F) (l .k) (d .q) (p .segments) within (l .segment);
       near = λ k q _ h same c.
-          subst (λ (y : ℤ). Within F (32768 + 3 * 2 ^ F) y (pick (e .x) (e .y) (e .width) c)) (exact-same F (p .points) c (l .k) (d .q) k q within h same)
-          (rw (number c) (shown-near F (courses (p .points) (l .k) c) (d .q) (of c d) (l .demand .stands c)));
+          subst (λ (y : ℤ). Within F (32768 + 3 * 2 ^ F) y (pick (e .x) (e .y) (e .width) c)) (exact-same (p .degree) F (p .points) c (l .k) (d .q) k q within h same)
+          (rw (number c) (shown-near F (courses (p .degree) (p .points) (l .k) c) (d .q) (of c d) (l .demand .stands c)));
     }
   where
     number : (c : Coordinate) → pick (e .x) (e .y) (e .width) c ≡ pixel (of c (after (l .calls) (begins p (l .k))))
@@ -95,9 +94,9 @@ near-in-numbers p e f n =
       position = n .position;
       inside = subst (λ (F : ℕ). n .at ≤ 2 ^ F * p .segments) f (n .inside);
       near = λ k q s h l c.
-          subst (λ (g : Control). Within 11 38912 (exact 11 (curve g) q) (pick (e .x) (e .y) (e .width) c)) (segment-uses (p .points) k c)
+          subst (λ (g : Control (p .degree)). Within 11 38912 (exact 11 (curve (p .degree) g) q) (pick (e .x) (e .y) (e .width) c)) (segment-uses (p .degree) (p .points) k c)
           (subst
           (λ (F : ℕ). q ≤ 2 ^ F → n .at ≡ 2 ^ F * k + q
-          → Within F (32768 + 3 * 2 ^ F) (exact F (courses (p .points) k c .curve) q) (pick (e .x) (e .y) (e .width) c))
+          → Within F (32768 + 3 * 2 ^ F) (exact F (courses (p .degree) (p .points) k c .curve) q) (pick (e .x) (e .y) (e .width) c))
           f (λ h l. n .near k q s h l c) h l);
     }

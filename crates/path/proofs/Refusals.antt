@@ -15,11 +15,11 @@ use Rattle.path.specs.Entries.{entries}
 use Rattle.path.specs.Answer.{drawRefusal}
 
 module _ (p : Path) where
-  pub refuses-14 : isSize (p .segments) (length (p .points)) ≡ false → pathRefusal p ≡ 14
+  pub refuses-14 : isSize (p .degree) (p .segments) (length (p .points)) ≡ false → pathRefusal p ≡ 14
   unfolding pathRefusal
   refuses-14 e = rw e
 
-  module _ (size : isSize (p .segments) (length (p .points)) ≡ true) where
+  module _ (size : isSize (p .degree) (p .segments) (length (p .points)) ≡ true) where
     -- whatever its points are
     pub refuses-24 : isFinest (p .finest) ≡ false → pathRefusal p ≡ 24
     unfolding pathRefusal
@@ -36,13 +36,13 @@ module _ (p : Path) where
       module _ (points : arePoints (p .points) ≡ true) where
         -- number i and the same coordinate of the next point are no neighbours
         pub refuses-2 : (i : ℕ) → coordinates + i < length (p .points)
-            → areNeighbours (reach (p .finest)) (getD (p .points) i (pos 0)) (getD (p .points) (coordinates + i) (pos 0)) ≡ false → pathRefusal p ≡ 2
+            → areNeighbours (reach (p .degree) (p .finest)) (getD (p .points) i (pos 0)) (getD (p .points) (coordinates + i) (pos 0)) ≡ false → pathRefusal p ≡ 2
         unfolding pathRefusal pointsRefusal
         refuses-2 i h e =
-            let chained = broken (areChained (reach (p .finest)) (p .points)) (λ t. true≢false (sym (chained-hold (reach (p .finest)) (p .points) t i h) ∙ e)) in
+            let chained = broken (areChained (reach (p .degree) (p .finest)) (p .points)) (λ t. true≢false (sym (chained-hold (reach (p .degree) (p .finest)) (p .points) t i h) ∙ e)) in
             rw (size, finest, points, chained)
 
-        module _ (chained : areChained (reach (p .finest)) (p .points) ≡ true) where
+        module _ (chained : areChained (reach (p .degree) (p .finest)) (p .points) ≡ true) where
           pub refuses-3 : isLevel (p .finest) (p .level) ≡ false → pathRefusal p ≡ 3
           unfolding pathRefusal pointsRefusal
           refuses-3 e = rw (size, finest, points, chained, e)

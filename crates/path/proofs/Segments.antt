@@ -27,37 +27,37 @@ use Rattle.path.proofs.Accepted.{passed, segment-accepted}
 
 -- d is a drawing of segment k
 abbrev pub Of : Path → ℕ → Drawing → Type 0
-Of p k d = Kept (p .finest) (λ c. courses (p .points) k c .curve) d
+Of p k d = Kept (p .finest) (λ c. courses (p .degree) (p .points) k c .curve) d
 
 -- its courses are tame, so that its registers fit; choosing answers; and it starts as a drawing of it
 pub record Sound (p : Path) (k : ℕ) : Type 0 where
   pub fine : Fine (p .finest)
-  pub tame : (c : Coordinate) → Tame (p .finest) (courses (p .points) k c)
+  pub tame : (c : Coordinate) → Tame (p .finest) (courses (p .degree) (p .points) k c)
   pub limits : areLimits (p .upper) (p .lower) ≡ true
-  pub first : Of p k (first (p .finest) (p .points) (p .level) k)
+  pub first : Of p k (first (p .degree) (p .finest) (p .points) (p .level) k)
 
 pub sound : (p : Path) → pathRefusal p ≡ 0 → (k : ℕ) → k < p .segments → Sound p k
 unfolding first
 sound p e k l =
-    let a = accepted (p .finest) (controls (p .points) k) (p .level) (segment-accepted p e k l) in
+    let a = accepted (p .degree) (p .finest) (controls (p .degree) (p .points) k) (p .level) (segment-accepted p e k l) in
     record {
       fine = a .fine;
-      tame = start-tame (p .finest) (controls (p .points) k) (p .level) a;
+      tame = start-tame (p .degree) (p .finest) (controls (p .degree) (p .points) k) (p .level) a;
       limits = passed p e .limits;
-      first = first-kept (p .finest) (courses (p .points) k) (p .level) (a .fine) (a .level);
+      first = first-kept (p .finest) (λ c. courses (p .degree) (p .points) k c .curve) (p .level) (a .fine) (a .level);
     }
 
 -- the first drawing of segment k is what the engine's start answers
 pub begun-first : (p : Path) → pathRefusal p ≡ 0 → (k : ℕ) → k < p .segments
-    → started (p .finest) (controls (p .points) k) (p .level) ≡ record { refusal = 0; drawing = first (p .finest) (p .points) (p .level) k }
+    → started (p .degree) (p .finest) (controls (p .degree) (p .points) k) (p .level) ≡ record { refusal = 0; drawing = first (p .degree) (p .finest) (p .points) (p .level) k }
 unfolding first
-begun-first p e k l = start-begins (p .finest) (controls (p .points) k) (p .level) (segment-accepted p e k l)
+begun-first p e k l = start-begins (p .degree) (p .finest) (controls (p .degree) (p .points) k) (p .level) (segment-accepted p e k l)
 
 -- ---- the drawings of a segment
 
 module _ (p : Path) (k : ℕ) where
-  pub fits : Sound p k → (c : Coordinate) → Bounded (p .finest) (courses (p .points) k c .curve)
-  fits s c = bounded (p .finest) (courses (p .points) k c) (s .fine .most) (s .tame c)
+  pub fits : Sound p k → (c : Coordinate) → Bounded (p .finest) (courses (p .degree) (p .points) k c .curve)
+  fits s c = bounded (p .finest) (courses (p .degree) (p .points) k c) (s .fine .most) (s .tame c)
 
   pub of-inside : (d : Drawing) → Of p k d → isDrawing (p .finest) (d .level) (d .q) ≡ true
   of-inside d = kept-inside (p .finest) _ d
@@ -73,9 +73,9 @@ module _ (p : Path) (k : ℕ) where
   pub record Held (d : Drawing) : Type 0 where
     pub on : Of p k d
     pub calls : List Operation
-    pub reached : after calls (first (p .finest) (p .points) (p .level) k) ≡ d
+    pub reached : after calls (first (p .degree) (p .finest) (p .points) (p .level) k) ≡ d
 
-  pub held-first : Sound p k → Held (first (p .finest) (p .points) (p .level) k)
+  pub held-first : Sound p k → Held (first (p .degree) (p .finest) (p .points) (p .level) k)
   held-first s = record { on = s .first; calls = []; reached = refl }
 
   pub held-next : Sound p k → (d : Drawing) → Held d → d .q < 2 ^ p .finest → Held (next (p .upper) (p .lower) d)
@@ -85,7 +85,7 @@ module _ (p : Path) (k : ℕ) where
         on = of-next d (t .on) h;
         calls = t .calls ++ op ∷ [];
         reached =
-            after-one (t .calls) op (first (p .finest) (p .points) (p .level) k)
+            after-one (t .calls) op (first (p .degree) (p .finest) (p .points) (p .level) k)
             ∙ ap (λ (e : Drawing). called op e .drawing) (t .reached)
             ∙ ap (λ (m : Moved). m .drawing) (chosen-accepted (p .finest) _ d (t .on) (p .upper) (p .lower) (fits s) h);
       }

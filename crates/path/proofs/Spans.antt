@@ -24,10 +24,11 @@ use Rattle.distance.proofs.Touching.{touches}
 use Rattle.distance.proofs.Demand3.{demand-3}
 use Rattle.entries.specs.declared.Entry.{Entry}
 use Rattle.entries.specs.Entries.{Linked, lastOf}
-use Rattle.path.specs.Path.{Path, pathRefusal, pointAt, place, control, controls, courses}
+use Rattle.path.specs.Path.{Path, pathRefusal, pointAt, place, controls, courses}
 use Rattle.path.specs.Entries.{entry, rest}
 use Rattle.path.specs.Listed.{corner, Follows, Placed}
 use Rattle.path.proofs.Accepted.{segment-accepted}
+use Rattle.path.proofs.Points.{first-point, last-point}
 use Rattle.path.proofs.Segments.{Of, Sound, begun-first, Held}
 use Rattle.path.proofs.Walk.{walk}
 
@@ -38,36 +39,32 @@ module _ (p : Path) (k : ℕ) (s : Sound p k) where
   F = p .finest
 
   -- each coordinate stands where its course stands
-  of-stands : (d : Drawing) → Of p k d → (c : Coordinate) → Stands F (courses (p .points) k c) (d .q) (of c d)
-  of-stands d on c = stands F (courses (p .points) k c) (d .level) (on .below) (d .q) (of c d) (s .fine .most) (s .tame c) (on .on c)
+  of-stands : (d : Drawing) → Of p k d → (c : Coordinate) → Stands F (courses (p .degree) (p .points) k c) (d .q) (of c d)
+  of-stands d on c = stands F (courses (p .degree) (p .points) k c) (d .level) (on .below) (d .q) (of c d) (s .fine .most) (s .tame c) (on .on c)
 
-  shown-first : (d : Drawing) → Of p k d → d .q ≡ 0 → (c : Coordinate) → pixel (of c d) ≡ pointAt (p .points) (place c) (degree * k)
-  unfolding control
-  shown-first d on e c = of-stands d on c .first-shown e
+  shown-first : (d : Drawing) → Of p k d → d .q ≡ 0 → (c : Coordinate) → pixel (of c d) ≡ pointAt (p .points) (place c) (degree (p .degree) * k)
+  shown-first d on e c = of-stands d on c .first-shown e ∙ first-point (p .degree) (p .points) (place c) k
 
-  shown-last : (d : Drawing) → Of p k d → d .q ≡ 2 ^ F → (c : Coordinate) → pixel (of c d) ≡ pointAt (p .points) (place c) (degree * (k + 1))
-  unfolding control
-  shown-last d on e c =
-      let next : degree * k + 3 ≡ degree * (k + 1) = omega arith in
-      of-stands d on c .last-shown e ∙ ap (pointAt (p .points) (place c)) next
+  shown-last : (d : Drawing) → Of p k d → d .q ≡ 2 ^ F → (c : Coordinate) → pixel (of c d) ≡ pointAt (p .points) (place c) (degree (p .degree) * (k + 1))
+  shown-last d on e c = of-stands d on c .last-shown e ∙ last-point (p .degree) (p .points) (place c) k
 
-  pub entry-first : (d : Drawing) → Of p k d → d .q ≡ 0 → entry F k d ≡ corner F (p .points) k
+  pub entry-first : (d : Drawing) → Of p k d → d .q ≡ 0 → entry F k d ≡ corner (p .degree) F (p .points) k
   unfolding entry corner
   entry-first d on e =
       let n : 2 ^ F * k + d .q ≡ 2 ^ F * k = omega arith in
       let shown = shown-first d on e in
       λ i. record { position = pos (n i); x = shown in-x i; y = shown in-y i; width = shown in-width i }
 
-  entry-last : (d : Drawing) → Of p k d → d .q ≡ 2 ^ F → entry F k d ≡ corner F (p .points) (k + 1)
+  entry-last : (d : Drawing) → Of p k d → d .q ≡ 2 ^ F → entry F k d ≡ corner (p .degree) F (p .points) (k + 1)
   unfolding entry corner
   entry-last d on e =
       let n : 2 ^ F * k + d .q ≡ 2 ^ F * (k + 1) = omega arith in
       let shown = shown-last d on e in
       λ i. record { position = pos (n i); x = shown in-x i; y = shown in-y i; width = shown in-width i }
 
-  pub span-last : (d : Drawing) → Held p k d → lastOf (entry F k d) (rest p k d) ≡ corner F (p .points) (k + 1)
+  pub span-last : (d : Drawing) → Held p k d → lastOf (entry F k d) (rest p k d) ≡ corner (p .degree) F (p .points) (k + 1)
   span-last =
-      walk p k s (λ d es. lastOf (entry F k d) es ≡ corner F (p .points) (k + 1))
+      walk p k s (λ d es. lastOf (entry F k d) es ≡ corner (p .degree) F (p .points) (k + 1))
       (λ d held. entry-last d (held .on))
       (λ d d' e f es l. ap (λ (x : Entry). lastOf x es) (sym f) ∙ l)
       (λ d held held' b w es l. l)
@@ -78,7 +75,7 @@ module _ (p : Path) (k : ℕ) (s : Sound p k) where
   unfolding entry turned
   step-follows d on b e =
       let upper = limits-hold (p .upper) (p .lower) (s .limits) .most in
-      let t = touches F (p .upper) (courses (p .points) k) d (omega (arith, s .fine .most)) (pow-mono {i = 1} (omega (arith, s .fine .least))) (s .tame) on upper e b in
+      let t = touches F (p .upper) (courses (p .degree) (p .points) k) d (omega (arith, s .fine .most)) (pow-mono {i = 1} (omega (arith, s .fine .least))) (s .tame) on upper e b in
       let l : 2 ^ F * k + d .q < 2 ^ F * k + (d .q + 2 ^ (d .finest - d .level)) = omega (arith, pow-pos (d .finest - d .level)) in
       record { rises = record { lt = lt→ltb (2 ^ F * k + d .q) (2 ^ F * k + (d .q + 2 ^ (d .finest - d .level))) l }; x = t in-x tt; y = t in-y tt }
 
@@ -113,7 +110,7 @@ module _ (p : Path) (k : ℕ) (s : Sound p k) where
           segment = l;
           calls = held .calls;
           shown = sym (ap (λ (s : Drawing). entry F k (after (held .calls) s)) start ∙ ap (entry F k) (held .reached));
-          demand = demand-3 F (controls (p .points) k) (p .level) (segment-accepted p e k l) (held .calls);
+          demand = demand-3 (p .degree) F (controls (p .degree) (p .points) k) (p .level) (segment-accepted p e k l) (held .calls);
         }
 
     pub span-placed : (d : Drawing) → Held p k d → All (Placed p) (rest p k d)

@@ -72,7 +72,7 @@ in-order-same (suc m) f g h = ap₂ _++_ (in-order-same m f g (λ k l. h k (omeg
 
 module _ (p : Path) where
   abbrev start : ℕ → Drawing
-  start k = first (p .finest) (p .points) (p .level) k
+  start k = first (p .degree) (p .finest) (p .points) (p .level) k
 
   abbrev part : ℕ → List Entry
   part k = rest p k (start k)

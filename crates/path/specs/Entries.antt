@@ -31,7 +31,7 @@ rest p k d = shownBy (p .finest) k (turns (p .upper) (p .lower) d)
 -- m segments from the k-th on, without the point that the first of them starts from
 unfoldable pub following : Path → ℕ → ℕ → List Entry
 following p k zero = []
-following p k (suc m) = rest p k (first (p .finest) (p .points) (p .level) k) ++ following p (k + 1) m
+following p k (suc m) = rest p k (first (p .degree) (p .finest) (p .points) (p .level) k) ++ following p (k + 1) m
 
 unfoldable pub entries : Path → List Entry
-entries p = entry (p .finest) 0 (first (p .finest) (p .points) (p .level) 0) ∷ following p 0 (p .segments)
+entries p = entry (p .finest) 0 (first (p .degree) (p .finest) (p .points) (p .level) 0) ∷ following p 0 (p .segments)

@@ -8,11 +8,13 @@ use Rattle.entries.specs.declared.Entry.{Entry}
 use Rattle.path.specs.Path.{Path}
 use Rattle.path.specs.Entries.{entries}
 
--- segment k as a path: points 3k to 3k + 3, the same levels and limits
+-- segment k as a path: points Dk to Dk + D, the same levels and limits
 unfoldable pub alone : Path → ℕ → Path
 alone p k =
+    let D = degree (p .degree) in
     record {
-      points = take (coordinates * (degree + 1)) (drop (coordinates * (degree * k)) (p .points));
+      degree = p .degree;
+      points = take (coordinates * (D + 1)) (drop (coordinates * (D * k)) (p .points));
       segments = 1;
       finest = p .finest;
       level = p .level;

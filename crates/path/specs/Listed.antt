@@ -6,8 +6,10 @@ use lib.IntN.{ℤ, pos, natAbs, _-ℤ_, _*ℤ_}
 use lib.ListN.{length}
 use lib.Signed.{_≤ℤ_, _<ℤ_}
 use Rattle.numbers.specs.Tables.{All}
+use Rattle.rules.specs.declared.Degree.{Degree}
+use Rattle.rules.specs.declared.Degree.the-variants.{Quadratic, Cubic}
 use Rattle.rules.specs.Rules.{degree}
-use Rattle.coordinate.specs.declared.Control.{Control}
+use Rattle.coordinate.specs.Control.{Control}
 use Rattle.coordinate.specs.Curve.{curve, exact}
 use Rattle.coordinate.specs.Registers.{Operation}
 use Rattle.operations.specs.Coordinates.{Coordinate, in-x, in-y, in-width, pick}
@@ -24,16 +26,16 @@ use Rattle.path.specs.Steps.{Goes, afterSteps, shownAt, inOrder}
 
 -- where segment k starts: what the engine's start answers, at the path's start level
 abbrev pub begins : Path → ℕ → Drawing
-begins p k = started (p .finest) (controls (p .points) k) (p .level) .drawing
+begins p k = started (p .degree) (p .finest) (controls (p .degree) (p .points) k) (p .level) .drawing
 
--- control point 3k with its width, at its position on the path
-unfoldable pub corner : ℕ → List ℤ → ℕ → Entry
-corner F points k =
+-- control point Dk with its width, at its position on the path
+unfoldable pub corner : Degree → ℕ → List ℤ → ℕ → Entry
+corner D F points k =
     record {
       position = pos (2 ^ F * k);
-      x = pointAt points (place in-x) (degree * k);
-      y = pointAt points (place in-y) (degree * k);
-      width = pointAt points (place in-width) (degree * k);
+      x = pointAt points (place in-x) (degree D * k);
+      y = pointAt points (place in-y) (degree D * k);
+      width = pointAt points (place in-width) (degree D * k);
     }
 
 -- neighbouring entries: the position rises, and x and y differ by at most 1; the width may differ by more
@@ -49,7 +51,7 @@ pub record Placed (p : Path) (e : Entry) : Type 0 where
   pub segment : k < p .segments
   pub calls : List Operation
   pub shown : e ≡ entry (p .finest) k (after calls (begins p k))
-  pub demand : Demand3 (p .finest) (courses (p .points) k) (after calls (begins p k)) (travelled calls (begins p k))
+  pub demand : Demand3 (p .finest) (courses (p .degree) (p .points) k) (after calls (begins p k)) (travelled calls (begins p k))
 
 -- z is less than m 65,536ths of a unit from y / 2^(3F)
 abbrev pub Within : ℕ → ℕ → ℤ → ℤ → Type 0
@@ -62,16 +64,16 @@ pub record Near (p : Path) (e : Entry) : Type 0 where
   pub position : e .position ≡ pos at
   pub inside : at ≤ 2 ^ p .finest * p .segments
   pub near : (k q : ℕ) → k < p .segments → q ≤ 2 ^ p .finest → at ≡ 2 ^ p .finest * k + q → (c : Coordinate)
-      → Within (p .finest) (32768 + 3 * 2 ^ p .finest) (exact (p .finest) (courses (p .points) k c .curve) q) (pick (e .x) (e .y) (e .width) c)
+      → Within (p .finest) (32768 + 3 * 2 ^ p .finest) (exact (p .finest) (courses (p .degree) (p .points) k c .curve) q) (pick (e .x) (e .y) (e .width) c)
 
 pub record Listed (p : Path) : Type 0 where
-  -- the list starts at the path's first control point, ends at its last, and has control point 3k at each 2^F·k
+  -- the list starts at the path's first control point, ends at its last, and has control point Dk at each 2^F·k
   pub after : List Entry
-  pub starts : entries p ≡ corner (p .finest) (p .points) 0 ∷ after
-  pub ends : lastOf (corner (p .finest) (p .points) 0) after ≡ corner (p .finest) (p .points) (p .segments)
-  pub corners : (k : ℕ) → k ≤ p .segments → Among (corner (p .finest) (p .points) k) (entries p)
+  pub starts : entries p ≡ corner (p .degree) (p .finest) (p .points) 0 ∷ after
+  pub ends : lastOf (corner (p .degree) (p .finest) (p .points) 0) after ≡ corner (p .degree) (p .finest) (p .points) (p .segments)
+  pub corners : (k : ℕ) → k ≤ p .segments → Among (corner (p .degree) (p .finest) (p .points) k) (entries p)
   -- neighbours touch, over joins too, and positions rise strictly
-  pub linked : Linked Follows (corner (p .finest) (p .points) 0) after
+  pub linked : Linked Follows (corner (p .degree) (p .finest) (p .points) 0) after
   -- each entry stands where the exact curve stands
   pub placed : All (Placed p) (entries p)
   pub near : All (Near p) (entries p)
@@ -93,10 +95,17 @@ pub record Most (p : Path) : Type 0 where
 
 -- ---- at F = 11, in the document's own numbers
 
--- segment k uses points 3k to 3k + 3: coordinate c of them
-abbrev pub segmentPoints : List ℤ → ℕ → ℕ → Control
-segmentPoints points c k =
+-- segment k uses points 2k to 2k + 2 of a quadratic path, 3k to 3k + 3 of a cubic one: coordinate c of them
+abbrev pub segmentPoints : (D : Degree) → List ℤ → ℕ → ℕ → Control D
+segmentPoints Quadratic points c k =
+    record { p0 = pointAt points c (2 * k); p1 = pointAt points c (2 * k + 1); p2 = pointAt points c (2 * k + 2) }
+segmentPoints Cubic points c k =
     record { p0 = pointAt points c (3 * k); p1 = pointAt points c (3 * k + 1); p2 = pointAt points c (3 * k + 2); p3 = pointAt points c (3 * k + 3) }
+
+-- and starts from the first of them
+abbrev pub cornerOf : Degree → ℕ → ℕ
+cornerOf Quadratic k = 2 * k
+cornerOf Cubic k = 3 * k
 
 -- Position is 2,048·k + q; half a unit and 6,144 are 38,912. `exact 11 f q` is A·q³ + B·q²·2^11 + C·q·2^22 + D·2^33.
 pub record NearInNumbers (p : Path) (e : Entry) : Type 0 where
@@ -104,7 +113,7 @@ pub record NearInNumbers (p : Path) (e : Entry) : Type 0 where
   pub position : e .position ≡ pos at
   pub inside : at ≤ 2048 * p .segments
   pub near : (k q : ℕ) → k < p .segments → q ≤ 2048 → at ≡ 2048 * k + q → (c : Coordinate)
-      → natAbs (pos 65536 *ℤ pick (e .x) (e .y) (e .width) c *ℤ pos (2 ^ 33) -ℤ pos 65536 *ℤ exact 11 (curve (segmentPoints (p .points) (pick 0 1 2 c) k)) q)
+      → natAbs (pos 65536 *ℤ pick (e .x) (e .y) (e .width) c *ℤ pos (2 ^ 33) -ℤ pos 65536 *ℤ exact 11 (curve (p .degree) (segmentPoints (p .degree) (p .points) (pick 0 1 2 c) k)) q)
       < 38912 * 2 ^ 33
 
 -- the corners stand at 2,048·k, every entry is near the exact curve, and the most points and length
@@ -113,9 +122,9 @@ pub record InNumbers (p : Path) : Type 0 where
       → Among
       (record {
         position = pos (2048 * k);
-        x = pointAt (p .points) 0 (3 * k);
-        y = pointAt (p .points) 1 (3 * k);
-        width = pointAt (p .points) 2 (3 * k);
+        x = pointAt (p .points) 0 (cornerOf (p .degree) k);
+        y = pointAt (p .points) 1 (cornerOf (p .degree) k);
+        width = pointAt (p .points) 2 (cornerOf (p .degree) k);
       })
       (entries p)
   pub near : All (NearInNumbers p) (entries p)

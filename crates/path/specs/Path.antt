@@ -1,13 +1,16 @@
--- A path: 1 to 64 segments over 3S + 1 points, one finest level and one start level for all its segments, and the limits that choose its steps.
+-- A path: 1 to 64 segments of one degree D over D·S + 1 points, one finest level and one start level for all its segments, and the limits that choose
+-- its steps.
 use mathlib.Core.List.{List}
 use Prim.Native.Nat.{ℕ, _+_, _*_}
 use lib.IntN.{ℤ, pos}
 use lib.ListN.{length, getD}
+use Rattle.rules.specs.declared.Degree.{Degree}
+use Rattle.rules.specs.declared.Degree.the-variants.{Quadratic, Cubic}
 use Rattle.rules.specs.declared.Limits.{Limits}
 use Rattle.rules.specs.Refusals.{unless, firstOf}
 use Rattle.rules.specs.Rules.{isFinest, reach, isLevel, areLimits, degree, coordinates, isSize, pointsRefusal}
-use Rattle.coordinate.specs.declared.Control.{Control}
-use Rattle.coordinate.specs.Course.{Course, cubic}
+use Rattle.coordinate.specs.Control.{Control}
+use Rattle.coordinate.specs.Course.{Course, course}
 use Rattle.operations.specs.Coordinates.{Coordinate, in-x, in-y, in-width}
 use Rattle.engine.specs.declared.Drawing.{Drawing}
 use Rattle.engine.specs.Start.{firstDrawing}
@@ -15,6 +18,7 @@ use Rattle.path.specs.declared.Shape.{Shape}
 
 -- points: x0, y0, width0, x1, y1, width1, .., as on a sheet
 pub record Path : Type 0 where
+  pub degree : Degree
   pub points : List ℤ
   pub segments : ℕ
   pub finest : ℕ
@@ -26,6 +30,7 @@ pub record Path : Type 0 where
 abbrev pub path : List ℤ → Shape → Limits → Path
 path points shape limits =
     record {
+      degree = shape .degree;
       points = points;
       segments = shape .segments;
       finest = shape .finest;
@@ -34,12 +39,12 @@ path points shape limits =
       lower = limits .lower;
     }
 
--- 14, 24, then 1 and 2 over the whole path, 2 by the reach at its finest level, then 3, 4
+-- 14, 24, then 1 and 2 over the whole path, 2 by the reach of its degree at its finest level, then 3, 4
 unfoldable pub pathRefusal : Path → ℕ
 pathRefusal p =
-    unless (isSize (p .segments) (length (p .points))) 14
+    unless (isSize (p .degree) (p .segments) (length (p .points))) 14
     (unless (isFinest (p .finest)) 24
-    (firstOf (pointsRefusal (reach (p .finest)) (p .points))
+    (firstOf (pointsRefusal (reach (p .degree) (p .finest)) (p .points))
     (unless (isLevel (p .finest) (p .level)) 3 (unless (areLimits (p .upper) (p .lower)) 4 0))))
 
 -- ---- its points
@@ -53,23 +58,22 @@ place in-x = 0
 place in-y = 1
 place in-width = 2
 
--- segment k uses points 3k to 3k + 3
-unfoldable pub control : List ℤ → ℕ → ℕ → Control
-control points c k =
-    record {
-      p0 = pointAt points c (degree * k);
-      p1 = pointAt points c (degree * k + 1);
-      p2 = pointAt points c (degree * k + 2);
-      p3 = pointAt points c (degree * k + 3);
-    }
+-- segment k uses points Dk to Dk + D: coordinate c of them
+unfoldable pub control : (D : Degree) → List ℤ → ℕ → ℕ → Control D
+control Quadratic points c k =
+    let i = degree Quadratic * k in
+    record { p0 = pointAt points c i; p1 = pointAt points c (i + 1); p2 = pointAt points c (i + 2) }
+control Cubic points c k =
+    let i = degree Cubic * k in
+    record { p0 = pointAt points c i; p1 = pointAt points c (i + 1); p2 = pointAt points c (i + 2); p3 = pointAt points c (i + 3) }
 
 -- the control points of each coordinate, and its course
-abbrev pub controls : List ℤ → ℕ → Coordinate → Control
-controls points k c = control points (place c) k
+abbrev pub controls : (D : Degree) → List ℤ → ℕ → Coordinate → Control D
+controls D points k c = control D points (place c) k
 
-abbrev pub courses : List ℤ → ℕ → Coordinate → Course
-courses points k c = cubic (controls points k c)
+abbrev pub courses : Degree → List ℤ → ℕ → Coordinate → Course
+courses D points k c = course D (controls D points k c)
 
 -- the start of segment k at finest level F: every segment begins at the path's start level
-unfoldable pub first : ℕ → List ℤ → ℕ → ℕ → Drawing
-first F points level k = firstDrawing F (courses points k) level
+unfoldable pub first : Degree → ℕ → List ℤ → ℕ → ℕ → Drawing
+first D F points level k = firstDrawing F (λ c. courses D points k c .curve) level

@@ -1,7 +1,11 @@
 // What a path's list is, and its theorems: there is no code here.
 
-// How a path is drawn, beside its points and limits: so many segments, positions that count 2^finest-ths of each, and one start level for all.
+use rules::Degree;
+
+// How a path is drawn, beside its points and limits: so many segments of a degree, positions that count 2^finest-ths of each, and one start level
+// for all.
 pub struct Shape {
+    pub degree: Degree,
     pub segments: u32,
     pub finest: u32,
     pub level: u32,

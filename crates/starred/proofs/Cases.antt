@@ -1,6 +1,7 @@
 -- The starred cases A to K of document 01, as one statement over one table. A row is a row of the engine's table, cited, or a path of one
 -- segment with its list. In the document's rows one coordinate moves, the others are 0 throughout, and the finest level is 11. Two rows of order 8, in
--- which the width moves, are reckoned by hand; those of order 9, at the finest levels 6 and 12, are not the document's: their numbers are the model's.
+-- which the width moves, are reckoned by hand; those of order 9, at the finest levels 6 and 12, and those of order 10, of quadratics, are not the
+-- document's: their numbers are the model's.
 use mathlib.Core.Path.{_≡_}
 use mathlib.Core.Bool.{Bool, _&&_}
 use mathlib.Core.List.{List, [], _∷_, _++_, map}
@@ -14,8 +15,10 @@ use Rattle.numbers.specs.Tests.{eqbℤs}
 use Rattle.numbers.proofs.Tests.{eqbℤs→eq}
 use Rattle.numbers.specs.Tables.{All, every}
 use Rattle.numbers.proofs.Tables.{tested, all-append, all-map}
+use Rattle.rules.specs.declared.Degree.{Degree}
+use Rattle.rules.specs.declared.Degree.the-variants.{Quadratic, Cubic}
 use Rattle.rules.specs.Rules.{isFinest, reach, isCoordinate, areNeighbours, isLevel, areLimits, isSegments, isSize, arePoints, areBeside, areChained, pointsRefusal}
-use Rattle.coordinate.specs.declared.Control.{Control}
+use Rattle.coordinate.specs.Control.{Control}
 use Rattle.coordinate.specs.Curve.{curve}
 use Rattle.coordinate.specs.Registers.{startRegisters, turn}
 use Rattle.coordinate.specs.Increment.{increment, doubledIncrement}
@@ -35,7 +38,8 @@ use Rattle.path.specs.Answer.{drawRefusal, measured, drawn, written}
 
 -- the control points of each coordinate, and the list: its positions, and what it shows of each coordinate; its length, where it is given
 pub record Row : Type 0 where
-  pub points : Coordinate → Control
+  pub degree : Degree
+  pub points : Coordinate → Control degree
   pub finest : ℕ
   pub level : ℕ
   pub upper : ℕ
@@ -45,14 +49,17 @@ pub record Row : Type 0 where
   pub total : Option ℕ
 
 -- the numbers of a point, x, y and width
-abbrev point : (Coordinate → Control) → (Control → ℤ) → List ℤ
+abbrev point : {A : Type 0} → (Coordinate → A) → (A → ℤ) → List ℤ
 point p number = number (p in-x) ∷ number (p in-y) ∷ number (p in-width) ∷ []
+
+abbrev pointsOf : (D : Degree) → (Coordinate → Control D) → List ℤ
+pointsOf Quadratic p = point p (λ q. q .p0) ++ (point p (λ q. q .p1) ++ point p (λ q. q .p2))
+pointsOf Cubic p = point p (λ q. q .p0) ++ (point p (λ q. q .p1) ++ (point p (λ q. q .p2) ++ point p (λ q. q .p3)))
 
 abbrev pub pathOf : Row → Path
 pathOf w =
-    let p : Coordinate → Control = w .points in
-    path (point p (λ q. q .p0) ++ (point p (λ q. q .p1) ++ (point p (λ q. q .p2) ++ point p (λ q. q .p3))))
-    (record { segments = 1; finest = w .finest; level = w .level }) (record { upper = w .upper; lower = w .lower })
+    path (pointsOf (w .degree) (w .points)) (record { degree = w .degree; segments = 1; finest = w .finest; level = w .level })
+    (record { upper = w .upper; lower = w .lower })
 
 -- the list as numbers: position, x, y and width of entry i and of those after it
 abbrev numbersFrom : ℕ → List ℕ → (Coordinate → List ℤ) → List ℤ
@@ -95,18 +102,21 @@ Holds (draws w) = Listed w
 -- ---- the table
 
 -- limits 65,536 and 32,768
-abbrev row : ℕ → (Coordinate → Control) → ℕ → List ℕ → (Coordinate → List ℤ) → Option ℕ → Row
-row F p n qs shown total =
-    record { points = p; finest = F; level = n; upper = 65536; lower = 32768; positions = qs; shown = shown; total = total }
+abbrev row : (D : Degree) → ℕ → (Coordinate → Control D) → ℕ → List ℕ → (Coordinate → List ℤ) → Option ℕ → Row
+row D F p n qs shown total =
+    record { degree = D; points = p; finest = F; level = n; upper = 65536; lower = 32768; positions = qs; shown = shown; total = total }
 
 -- x moves
-abbrev at-finest : ℕ → Control → ℕ → List ℕ → List ℤ → Option ℕ → Row
-at-finest F p n qs xs total =
+abbrev of-degree : (D : Degree) → ℕ → Control D → ℕ → List ℕ → List ℤ → Option ℕ → Row
+of-degree D F p n qs xs total =
     let none : List ℤ = replicate (length qs) (pos 0) in
-    row F (pick p (engine.flat (pos 0)) (engine.flat (pos 0))) n qs (pick xs none none) total
+    row D F (pick p (engine.flat D (pos 0)) (engine.flat D (pos 0))) n qs (pick xs none none) total
+
+abbrev at-finest : ℕ → Control Cubic → ℕ → List ℕ → List ℤ → Option ℕ → Row
+at-finest = of-degree Cubic
 
 -- the document's rows
-abbrev in-x-alone : Control → ℕ → List ℕ → List ℤ → Option ℕ → Row
+abbrev in-x-alone : Control Cubic → ℕ → List ℕ → List ℤ → Option ℕ → Row
 in-x-alone = at-finest 11
 
 unfoldable pub moving : List Row
@@ -126,20 +136,20 @@ moving =
 unfoldable pub still : List Row
 still =
     -- K: all points equal, level 5, limits as in A: two entries, positions 0 and 2048; here at 0 and at both ends of the coordinates
-    in-x-alone (engine.flat (pos 0)) 5 (0 ∷ 2048 ∷ []) (pos 0 ∷ pos 0 ∷ []) none
-    ∷ in-x-alone (engine.flat (pos 16383)) 5 (0 ∷ 2048 ∷ []) (pos 16383 ∷ pos 16383 ∷ []) none
-    ∷ in-x-alone (engine.flat (negsuc 16383)) 5 (0 ∷ 2048 ∷ []) (negsuc 16383 ∷ negsuc 16383 ∷ []) none
+    in-x-alone (engine.flat Cubic (pos 0)) 5 (0 ∷ 2048 ∷ []) (pos 0 ∷ pos 0 ∷ []) none
+    ∷ in-x-alone (engine.flat Cubic (pos 16383)) 5 (0 ∷ 2048 ∷ []) (pos 16383 ∷ pos 16383 ∷ []) none
+    ∷ in-x-alone (engine.flat Cubic (negsuc 16383)) 5 (0 ∷ 2048 ∷ []) (negsuc 16383 ∷ negsuc 16383 ∷ []) none
     ∷ []
 
 unfoldable pub widening : List Row
 widening =
     -- the width alone moves, widths 0, 682, 1364, 2046, level 0: it takes no part in choosing, so that there are two entries
-    row 11 (pick (engine.flat (pos 0)) (engine.flat (pos 0)) (engine.line (pos 0) (pos 682) (pos 1364) (pos 2046))) 0
+    row Cubic 11 (pick (engine.flat Cubic (pos 0)) (engine.flat Cubic (pos 0)) (engine.line (pos 0) (pos 682) (pos 1364) (pos 2046))) 0
     (0 ∷ 2048 ∷ [])
     (pick (pos 0 ∷ pos 0 ∷ []) (pos 0 ∷ pos 0 ∷ []) (pos 0 ∷ pos 2046 ∷ []))
     (some 0)
     -- x as in A, y as in B, and a lane that narrows from 24 to 9
-    ∷ row 11 (pick (engine.line (pos 0) (pos 1) (pos 2) (pos 3)) (engine.line (pos 3) (pos 2) (pos 1) (pos 0)) (engine.line (pos 24) (pos 19) (pos 14) (pos 9))) 0
+    ∷ row Cubic 11 (pick (engine.line (pos 0) (pos 1) (pos 2) (pos 3)) (engine.line (pos 3) (pos 2) (pos 1) (pos 0)) (engine.line (pos 24) (pos 19) (pos 14) (pos 9))) 0
     (0 ∷ 512 ∷ 1024 ∷ 1536 ∷ 2048 ∷ [])
     (pick (pos 0 ∷ pos 1 ∷ pos 2 ∷ pos 2 ∷ pos 3 ∷ []) (pos 3 ∷ pos 2 ∷ pos 2 ∷ pos 1 ∷ pos 0 ∷ []) (pos 24 ∷ pos 20 ∷ pos 17 ∷ pos 13 ∷ pos 9 ∷ []))
     (some 4828)
@@ -166,9 +176,29 @@ finer =
     (some 8000)
     ∷ []
 
--- A and B, the engine's C to J and its rows at other finest levels, K, the width's, and those at other finest levels
+-- quadratics: 0,1,2, which is even; 2,1,0 from the other end; 0,0,4, which sets out slowly, at 11, at 6 and at 12; all points equal
+unfoldable pub bending : List Row
+bending =
+    of-degree Quadratic 11 (engine.bend (pos 0) (pos 1) (pos 2)) 0 (0 ∷ 1024 ∷ 2048 ∷ []) (pos 0 ∷ pos 1 ∷ pos 2 ∷ []) (some 2000)
+    ∷ of-degree Quadratic 11 (engine.bend (pos 2) (pos 1) (pos 0)) 0 (0 ∷ 1024 ∷ 2048 ∷ []) (pos 2 ∷ pos 1 ∷ pos 0 ∷ []) (some 2000)
+    ∷ of-degree Quadratic 11 (engine.bend (pos 0) (pos 0) (pos 4)) 0
+    (0 ∷ 1024 ∷ 1280 ∷ 1536 ∷ 1792 ∷ 2048 ∷ [])
+    (pos 0 ∷ pos 1 ∷ pos 2 ∷ pos 2 ∷ pos 3 ∷ pos 4 ∷ [])
+    (some 4000)
+    ∷ of-degree Quadratic 6 (engine.bend (pos 0) (pos 0) (pos 4)) 6
+    (0 ∷ 32 ∷ 40 ∷ 48 ∷ 56 ∷ 64 ∷ [])
+    (pos 0 ∷ pos 1 ∷ pos 2 ∷ pos 2 ∷ pos 3 ∷ pos 4 ∷ [])
+    (some 4000)
+    ∷ of-degree Quadratic 12 (engine.bend (pos 0) (pos 0) (pos 4)) 0
+    (0 ∷ 2048 ∷ 2560 ∷ 3072 ∷ 3584 ∷ 4096 ∷ [])
+    (pos 0 ∷ pos 1 ∷ pos 2 ∷ pos 2 ∷ pos 3 ∷ pos 4 ∷ [])
+    (some 4000)
+    ∷ of-degree Quadratic 11 (engine.flat Quadratic (negsuc 16383)) 5 (0 ∷ 2048 ∷ []) (negsuc 16383 ∷ negsuc 16383 ∷ []) (some 0)
+    ∷ []
+
+-- A and B, the engine's C to J and its rows at other finest levels and of quadratics, K, the width's, those at other finest levels, and quadratics
 unfoldable pub table : List Case
-table = map draws moving ++ (map calls engine.table ++ (map draws still ++ (map draws widening ++ map draws finer)))
+table = map draws moving ++ (map calls engine.table ++ (map draws still ++ (map draws widening ++ (map draws finer ++ map draws bending))))
 
 -- ---- one test for all
 
@@ -219,11 +249,13 @@ all-listed : (ws : List Row) → T (every right ws) → All Holds (map draws ws)
 all-listed ws t = all-map Holds draws ws (tested Listed right right-listed ws t)
 
 pub starred : All Holds table
-unfolding table moving still widening finer everyCoordinate drawn written measured drawRefusal pathRefusal pointsRefusal isFinest reach isSegments isSize arePoints areChained areBeside isCoordinate
+unfolding table moving still widening finer bending everyCoordinate drawn written measured drawRefusal pathRefusal pointsRefusal isFinest reach isSegments isSize arePoints areChained areBeside isCoordinate
     areNeighbours isLevel areLimits entries following rest first control pointAt curve startRegisters turns turnsIn choose wantsHalve
     wantsDouble increment doubledIncrement isAligned turned turn shownBy entry pixel flat lengthOf lengthFrom moveLength
 starred =
-    all-append Holds (map draws moving) (map calls engine.table ++ (map draws still ++ (map draws widening ++ map draws finer))) (all-listed moving tt)
-    (all-append Holds (map calls engine.table) (map draws still ++ (map draws widening ++ map draws finer)) (all-map Holds calls engine.table engine.starred)
-    (all-append Holds (map draws still) (map draws widening ++ map draws finer) (all-listed still tt)
-    (all-append Holds (map draws widening) (map draws finer) (all-listed widening tt) (all-listed finer tt))))
+    let lanes = map draws widening ++ (map draws finer ++ map draws bending) in
+    all-append Holds (map draws moving) (map calls engine.table ++ (map draws still ++ lanes)) (all-listed moving tt)
+    (all-append Holds (map calls engine.table) (map draws still ++ lanes) (all-map Holds calls engine.table engine.starred)
+    (all-append Holds (map draws still) lanes (all-listed still tt)
+    (all-append Holds (map draws widening) (map draws finer ++ map draws bending) (all-listed widening tt)
+    (all-append Holds (map draws finer) (map draws bending) (all-listed finer tt) (all-listed bending tt)))))

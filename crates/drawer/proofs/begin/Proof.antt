@@ -20,7 +20,7 @@ entry-of-requires : tie.Need-entry-of-requires
 unfolding first
 entry-of-requires c κs =
     let s = c .before in
-    let finest = accepted (s .args .shape .finest) _ _ (s .pre .accepted) .fine .most in
+    let finest = accepted (s .args .shape .degree) (s .args .shape .finest) _ _ (s .pre .accepted) .fine .most in
     subst (λ (d : Drawing). Placed d 0) (sym (c .first-of .ensures)) (record { few = omega arith; finest = finest; within = zero≤ })
 
 put-requires : tie.Need-put-requires

@@ -18,7 +18,7 @@ returns : tie.Need-returns
 unfolding pathRefusal
 returns c = simp (sym (c .before .size .ensures) ∙ not-true _ (c .if1 .taken))
 
-sized : (c : tie.Else1) → let a = c .before .before .args in isSize (a .shape .segments) (length (a .points .now)) ≡ true
+sized : (c : tie.Else1) → let a = c .before .before .args in isSize (a .shape .degree) (a .shape .segments) (length (a .points .now)) ≡ true
 sized c = sym (c .before .size .ensures) ∙ not-false _ (c .if1 .left)
 
 finest-requires : tie.Need-finest-requires
@@ -37,10 +37,10 @@ reach-requires c κs = search needs
 points-refusal-requires : tie.Need-points-refusal-requires
 points-refusal-requires c κs = search needs
 
--- 1 and 2 by the reach at the path's finest level
+-- 1 and 2 by the reach of the path's degree at its finest level
 asked : (c : tie.After-points-refusal)
     → let a = c .before .before .before .before .before .before .args in
-    c .points-refusal .result ≡ pointsRefusal (reach (a .shape .finest)) (a .points .now)
+    c .points-refusal .result ≡ pointsRefusal (reach (a .shape .degree) (a .shape .finest)) (a .points .now)
 asked c =
     let a = c .before .before .before .before .before .before .args in
     c .points-refusal .ensures ∙ ap (λ (W : ℕ). pointsRefusal W (a .points .now)) (c .before .reach .ensures)
@@ -57,7 +57,7 @@ returns-3 c =
     e ∙ sym (simp (sized (passed d .before .before), fine (passed d)) (first-stop _ _ (λ z. c .if3 .taken (e ∙ z))))
 
 pointed : (c : tie.Else3)
-    → let a = c .before .before .before .before .before .before .before .args in pointsRefusal (reach (a .shape .finest)) (a .points .now) ≡ 0
+    → let a = c .before .before .before .before .before .before .before .args in pointsRefusal (reach (a .shape .degree) (a .shape .finest)) (a .points .now) ≡ 0
 pointed c = sym (asked (c .before)) ∙ c .if3 .left
 
 level-requires : tie.Need-level-requires

@@ -1,43 +1,41 @@
--- The start is accepted, so that it begins.
-use mathlib.Core.Path.{ap, _∙_}
+-- Each arm starts by its degree, which is the shape's.
+use mathlib.Core.Path.{sym, ap, _∙_, subst}
 use borrow.Author.Needs.{needs}
-use Rattle.coordinate.specs.declared.Control.{Control}
-use Rattle.operations.specs.Coordinates.{Coordinate, pick}
-use Rattle.operations.proofs.Every.{picked}
-use Rattle.engine.specs.declared.Moved.{Moved}
-use Rattle.engine.specs.Start.{started}
-use Rattle.engine.proofs.Accepted.{start-begins}
-use Rattle.path.specs.Path.{controls, first}
+use Rattle.rules.specs.declared.Degree.{Degree}
+use Rattle.path.specs.Path.{first}
+use Rattle.drawer.specs.Tally.{Ready}
 use Rattle.drawer.proofs.segments.first_of.Statement.{statement}
 use Rattle.drawer.proofs.segments.first_of.Tie as tie
 
-control-of-requires : tie.Need-control-of-requires
-control-of-requires c κs = search needs
+enum-told : tie.Need-enum-told
+enum-told c = search needs
 
-control-of-requires-2 : tie.Need-control-of-requires-2
-control-of-requires-2 c κs = search needs
+first-quadratic-requires : tie.Need-first-quadratic-requires
+first-quadratic-requires c κs =
+    let s = c .before .before in
+    let a = s .args in
+    subst (λ (D : Degree). Ready D (a .shape .finest) (a .points .now) (a .shape .level) (a .k)) (c .enum-told .given .1) (s .pre)
 
-control-of-requires-3 : tie.Need-control-of-requires-3
-control-of-requires-3 c κs = search needs
+enum-told-2 : tie.Need-enum-told-2
+enum-told-2 c = search needs
 
-start-requires : tie.Need-start-requires
-start-requires c κs = search needs
+first-cubic-requires : tie.Need-first-cubic-requires
+first-cubic-requires c κs =
+    let s = c .before .before in
+    let a = s .args in
+    subst (λ (D : Degree). Ready D (a .shape .finest) (a .points .now) (a .shape .level) (a .k)) (c .enum-told2 .given .1) (s .pre)
 
 returns : tie.Need-returns
-unfolding first
 returns c =
-    let s = c .before .before .before .before .before in
-    let a = s .args in
-    let x = c .before .before .before .before .control-of .ensures in
-    let y = c .before .before .before .control-of2 .ensures in
-    let width = c .before .before .control-of3 .ensures in
-    let p = controls (a .points .now) (a .k) in
-    ap (λ (m : Moved). m .drawing)
-    (c .before .start .ensures
-    ∙ (λ i. started (a .shape .finest) (pick (x i) (y i) (width i)) (a .shape .level))
-    ∙ ap (λ (p : Coordinate → Control). started (a .shape .finest) p (a .shape .level)) (picked p)
-    ∙ start-begins (a .shape .finest) p (a .shape .level) (s .pre .accepted))
+    let a = c .before .before .before .args in
+    c .first-quadratic .ensures
+    ∙ ap (λ (D : Degree). first D (a .shape .finest) (a .points .now) (a .shape .level) (a .k)) (sym (c .before .enum-told .given .1))
+
+returns-2 : tie.Need-returns-2
+returns-2 c =
+    let a = c .before .before .before .args in
+    c .first-cubic .ensures
+    ∙ ap (λ (D : Degree). first D (a .shape .finest) (a .points .now) (a .shape .level) (a .k)) (sym (c .before .enum-told2 .given .1))
 
 pub first-of-spec : {M : Type 1} → statement M
-first-of-spec =
-    tie.close (tie.spec control-of-requires control-of-requires-2 control-of-requires-3 start-requires returns)
+first-of-spec = tie.close (tie.spec enum-told first-quadratic-requires enum-told-2 first-cubic-requires returns returns-2)

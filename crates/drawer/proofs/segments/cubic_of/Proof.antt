@@ -2,59 +2,60 @@
 use mathlib.Core.Path.{refl}
 use Prim.Native.Nat.{_+_, _*_}
 use native.Mathlib.Omega.{arith}
+use borrow.Author.Needs.{needs}
 use Rattle.numbers.proofs.Machine.{number-read}
-use Rattle.rules.specs.Rules.{degree, coordinates}
+use Rattle.rules.specs.Rules.{coordinates}
 use Rattle.path.specs.Path.{pointAt, control}
-use Rattle.drawer.proofs.segments.control_of.Statement.{statement}
-use Rattle.drawer.proofs.segments.control_of.Tie as tie
+use Rattle.drawer.proofs.segments.cubic_of.Statement.{statement}
+use Rattle.drawer.proofs.segments.cubic_of.Tie as tie
 
 mul-i : tie.Need-mul-i
-mul-i c = record { fits = omega arith }
+mul-i c = search needs
 
 mul-i-2 : tie.Need-mul-i-2
-mul-i-2 c = record { fits = omega arith }
+mul-i-2 c = search needs
 
 add-i : tie.Need-add-i
-add-i c = record { fits = omega arith }
+add-i c = search needs
 
 mul-t5 : tie.Need-mul-t5
-mul-t5 c = record { fits = omega arith }
+mul-t5 c = search needs
 
 shared-slice-copy-out-t9 : tie.Need-shared-slice-copy-out-t9
-shared-slice-copy-out-t9 c = omega arith
+shared-slice-copy-out-t9 c = search needs
 
 add-t7 : tie.Need-add-t7
-add-t7 c = record { fits = omega arith }
+add-t7 c = search needs
 
 mul-t6 : tie.Need-mul-t6
-mul-t6 c = record { fits = omega arith }
+mul-t6 c = search needs
 
 shared-slice-copy-out-t11 : tie.Need-shared-slice-copy-out-t11
-shared-slice-copy-out-t11 c = omega arith
+shared-slice-copy-out-t11 c = search needs
 
 mul-t12 : tie.Need-mul-t12
-mul-t12 c = record { fits = omega arith }
+mul-t12 c = search needs
 
 add-t13 : tie.Need-add-t13
-add-t13 c = record { fits = omega arith }
+add-t13 c = search needs
 
 mul-t14 : tie.Need-mul-t14
-mul-t14 c = record { fits = omega arith }
+mul-t14 c = search needs
 
 shared-slice-copy-out-t16 : tie.Need-shared-slice-copy-out-t16
-shared-slice-copy-out-t16 c = omega arith
+shared-slice-copy-out-t16 c = search needs
 
 mul-t17 : tie.Need-mul-t17
-mul-t17 c = record { fits = omega arith }
+mul-t17 c = search needs
 
 add-t18 : tie.Need-add-t18
-add-t18 c = record { fits = omega arith }
+add-t18 c = search needs
 
 mul-t19 : tie.Need-mul-t19
-mul-t19 c = record { fits = omega arith }
+mul-t19 c = search needs
 
 shared-slice-copy-out-t21 : tie.Need-shared-slice-copy-out-t21
-shared-slice-copy-out-t21 c = omega arith
+shared-slice-copy-out-t21 c = search needs
 
 returns : tie.Need-returns
 unfolding control pointAt
@@ -62,7 +63,7 @@ returns c =
     let s = c .before .before .before .before in
     let l = s .args .points .now in
     let x = s .args .c in
-    let at = degree * s .args .k in
+    let at = 3 * s .args .k in
     let i = coordinates * at + x in
     λ j. record {
       p0 = number-read l i i refl (c .before .before .before .t9 .given) j;
@@ -71,8 +72,8 @@ returns c =
       p3 = number-read l (i + 3 * coordinates) (coordinates * (at + 3) + x) (omega arith) (c .t21 .given) j;
     }
 
-pub control-of-spec : {M : Type 1} → statement M
-control-of-spec =
+pub cubic-of-spec : {M : Type 1} → statement M
+cubic-of-spec =
     tie.close
     (tie.spec
     mul-i
