@@ -4,11 +4,12 @@ ghost use Prim.Native.Nat.{_+_, _*_, _≤_, _<_};
 ghost use lib.ListN.{length};
 ghost use lib.Seq.{sets};
 ghost use Rattle.sheet.specs.Bytes.{valueSize, u16At, u32At, i16At, valuesAt};
-ghost use Rattle.sheet.specs.Sheet.{mostBytes, mostPaths, headSize, sheetNumbers};
-ghost use Rattle.sheet.specs.Records.{sheetAt};
+ghost use Rattle.sheet.specs.Sheet.{mostBytes, mostPaths, headSize, recordHead, sheetNumbers};
+ghost use Rattle.sheet.specs.Records.{recordMark, recordPointNumbers, sheetAt};
 ghost use Rattle.sheet.specs.Reading.{bodyRefusal, recordRefusal, recordsRefusal, sheetRefusal};
 ghost use Rattle.sheet.specs.Answer.{refusedBy, readAnswer, numbersRead};
 use rules::Limits;
+use rules::Marked;
 use rules::SHEET_FINEST;
 use sheet::LEAST_BYTES;
 use sheet::LIST_HEAD;
@@ -89,7 +90,7 @@ fn records_refusal(sheet: &[u8], paths: u32) -> u32
         if refusal != 0 {
             return refusal;
         }
-        at += RECORD_HEAD + VALUE_SIZE * rules::point_numbers(u16_at(sheet, at));
+        at += RECORD_HEAD + VALUE_SIZE * record_point_numbers(sheet, at);
         k += 1;
     }
     if at != sheet.len() {
@@ -116,18 +117,36 @@ fn body_refusal(sheet: &[u8], at: usize) -> u32
     if sheet.len() < at + RECORD_HEAD {
         return 15;
     }
-    let segments = u16_at(sheet, at);
-    let refusal = rules::head_refusal(SHEET_FINEST, segments, u16_at(sheet, at + VALUE_SIZE));
+    let marked = record_mark(sheet, at);
+    let refusal = rules::head_refusal(SHEET_FINEST, u16_at(sheet, at), marked.level);
     if refusal != 0 {
         return refusal;
     }
-    let n = rules::point_numbers(segments);
+    let n = record_point_numbers(sheet, at);
     if sheet.len() < at + RECORD_HEAD + VALUE_SIZE * n {
         return 15;
     }
     let mut points = [0i32; rules::MOST_POINT_NUMBERS];
     take_values(sheet, at + RECORD_HEAD, n, &mut points, 0);
-    rules::points_refusal(rules::reach(SHEET_FINEST), &points[..n])
+    let degree = marked.degree;
+    rules::points_refusal(rules::reach(degree, SHEET_FINEST), &points[..n])
+}
+
+// The degree and the start level of the record at `at`.
+fn record_mark(sheet: &[u8], at: usize) -> Marked
+    requires { ⌜ at + recordHead ≤ length (now sheet) ⌝ }
+    ensures { λ r. ⌜ r ≡ recordMark (now (sheet .entry)) at ⌝ }
+{
+    Marked::by(u16_at(sheet, at + VALUE_SIZE))
+}
+
+// How many numbers the points of the record at `at` are.
+fn record_point_numbers(sheet: &[u8], at: usize) -> usize
+    requires { ⌜ at + recordHead ≤ length (now sheet) ⌝ }
+    ensures { λ r. ⌜ r ≡ recordPointNumbers (now (sheet .entry)) at ⌝ }
+{
+    let degree = record_mark(sheet, at).degree;
+    rules::point_numbers(degree, u16_at(sheet, at))
 }
 
 // ---- the number list of an accepted sheet

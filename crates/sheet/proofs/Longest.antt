@@ -7,6 +7,7 @@ use lib.IntN.{pos}
 use lib.ListN.{length, replicate}
 use Rattle.numbers.specs.Tables.{All}
 use Rattle.numbers.proofs.Tables.{all-append}
+use Rattle.rules.specs.declared.Degree.the-variants.{Cubic}
 use Rattle.rules.specs.Rules.{reach, isCoordinate, areNeighbours, isLevel, areLimits, isSegments, isSize, pointNumbers, arePoints, areBeside, areChained}
 use Rattle.sheet.specs.Sheet.{Target, Sheet, sheetBytes, pathNumbers, RightPath, Right}
 use Rattle.sheet.specs.Reading.{sheetRefusal}
@@ -15,7 +16,7 @@ use Rattle.sheet.proofs.ReadsBack.{reads-back}
 
 -- a path that stays where it is
 abbrev still : ℕ → Target
-still S = record { segments = S; level = 0; points = replicate (pointNumbers S) (pos 0) }
+still S = record { degree = Cubic; segments = S; level = 0; points = replicate (pointNumbers Cubic S) (pos 0) }
 
 abbrev pub longest : Sheet
 longest = record { upper = 65536; lower = 32768; paths = replicate 36 (still 39) ++ replicate 10 (still 38) }

@@ -1,5 +1,6 @@
 -- A sheet of the old form with any path in it is refused. Its header and its first record's place and segments read the same in both forms, but
--- with a width for each point the record ends further on: not where the next offset says, and after a single path not where the sheet ends.
+-- with a width for each point the record ends further on, whichever degree its mark says: not where the next offset says, and after a single path
+-- not where the sheet ends.
 use mathlib.Core.Path.{_≡_, refl, sym, ap, ap₂, _∙_}
 use mathlib.Core.Bool.{Bool, true, _&&_}
 use mathlib.Core.List.{List, [], _∷_, map}
@@ -7,10 +8,12 @@ use Prim.Native.Nat.{ℕ, _+_, _*_, _≤_, _<_}
 use native.Mathlib.Omega.{arith}
 use lib.IntN.{pos}
 use lib.ListN.{length, drop}
-use borrow.Author.Tests.{leb-true, eqb-true, eq-eqb}
+use borrow.Author.Tests.{eqb-true, eq-eqb}
 use Rattle.numbers.specs.Tables.{All}
 use Rattle.numbers.proofs.Tables.{all-weaker}
 use Rattle.numbers.proofs.Tests.{and-true}
+use Rattle.rules.specs.declared.Degree.{Degree}
+use Rattle.rules.specs.declared.Degree.the-variants.{Quadratic, Cubic}
 use Rattle.rules.specs.Rules.{
   sheetFinest,
   reach,
@@ -26,20 +29,29 @@ use Rattle.rules.specs.Rules.{
   areBeside,
   areChained,
   pointsRefusal,
+  mark,
+  marked,
 }
+use Rattle.rules.proofs.Laws.{level-holds}
 use Rattle.rules.proofs.Refusals.{first-kept}
 use Rattle.sheet.specs.Bytes.{valueBytes, valuesAt}
 use Rattle.sheet.specs.Sheet.{Target, Sheet, mostBytes, recordBytes, records, offsets, sheetBytes, sheetReach, RightPath, Right}
-use Rattle.sheet.specs.Records.{recordAt, recordEnd}
+use Rattle.sheet.specs.Records.{recordMark, recordAt, recordEnd}
 use Rattle.sheet.specs.PathRules.{pathRules}
 use Rattle.sheet.specs.Reading.{isOffset, bodyRefusal, recordRefusal, recordsRefusal, sheetRefusal, readRefusal}
 use Rattle.sheet.specs.Answer.{readAnswer}
 use Rattle.sheet.specs.OldForm.{Place, OldPath, OldSheet, placeNumbers, oldTarget, oldParts, oldBytes, withWidths, newTarget, OldSize, OldRightPath, OldRight}
+use Rattle.sheet.proofs.InNumbers.{points-in-numbers}
 use Rattle.sheet.proofs.Sheets.{length-record, length-bytes}
 use Rattle.sheet.proofs.Room.{room-accepted}
 use Rattle.sheet.proofs.Reading.{records-stop, records-done, record-held, headed}
-use Rattle.sheet.proofs.ReadsBack.{Stands, stands-end, next-stands, offset-back, segments-back, level-back, sheet-stands, count-back, limits-back, reads-back}
+use Rattle.sheet.proofs.ReadsBack.{Stands, stands-end, next-stands, offset-back, segments-back, mark-back, sheet-stands, count-back, limits-back, reads-back}
 use Rattle.sheet.proofs.Refusals.{sheet-refuses-by-records, record-refuses-by-body, record-order}
+
+-- x and y of 3S + 1 points are too few for either degree
+old-size-short : (D : Degree) (S : ℕ) → 2 * (3 * S + 1) < pointNumbers D S
+old-size-short Quadratic S = omega arith
+old-size-short Cubic S = omega arith
 
 -- records that are read without a refusal from a place on stand there: the next offset says so, or the sheet's end
 place-found : (b : List ℕ) (ps : List Target) (k p place : ℕ) → length b ≤ mostBytes → Stands b ps k p → recordsRefusal b (length ps) k place ≡ 0
@@ -49,22 +61,24 @@ place-found b [] k p place h s e = records-done b k place e ∙ sym (stands-end 
 place-found b (q ∷ ps) k p place h s e =
     sym (record-held b k place (first-kept (recordRefusal b k place) _ e .0) .offset) ∙ offset-back b q ps k p s h
 
--- so the first of them has as many numbers as its segments say
+-- so the first of them has as many numbers as its segments and its mark say
 size-found : (b : List ℕ) (q : Target) (ps : List Target) (k p : ℕ) → length b ≤ mostBytes → Stands b (q ∷ ps) k p → isSegments (q .segments) ≡ true
-    → recordsRefusal b (length (q ∷ ps)) k p ≡ 0 → length (q .points) ≡ pointNumbers (q .segments)
+    → recordsRefusal b (length (q ∷ ps)) k p ≡ 0 → length (q .points) ≡ pointNumbers (recordMark b p .degree) (q .segments)
 unfolding recordsRefusal
 size-found b q ps k p h s segments e =
     let next = next-stands b q ps k p s in
     let end = place-found b ps (k + 1) (p + length (recordBytes q)) (recordEnd b p) h next (first-kept (recordRefusal b k p) _ e .1) in
-    omega (arith, end, segments-back b q ps k p s segments, length-record q)
+    let same = rw (segments-back b q ps k p s segments) at end in
+    omega (arith, same, length-record q)
 
--- which in the old form it has not
+-- which in the old form it has not, whatever its mark is
 records-refused : (b : List ℕ) (ps : List OldPath) (k p : ℕ) → length b ≤ mostBytes → Stands b (map oldTarget ps) k p → All OldSize ps
     → 0 < length ps → recordsRefusal b (length (map oldTarget ps)) k p ≡ 0 → ⊥
 unfolding oldTarget
 records-refused b [] k p h s r some e = omega arith
 records-refused b (q ∷ ps) k p h s r some e =
-    omega (arith, size-found b (oldTarget q) (map oldTarget ps) k p h s (r .0 .segments) e, r .0 .numbers)
+    let size = size-found b (oldTarget q) (map oldTarget ps) k p h s (r .0 .segments) e in
+    omega (arith, size, r .0 .numbers, old-size-short (recordMark b p .degree) (q .segments))
 
 -- whatever its limits, its levels and its points are
 pub old-size-refused : (s : OldSheet) → All OldSize (s .paths) → 0 < length (s .paths) → sheetRefusal (oldBytes s) ≡ 0 → ⊥
@@ -84,16 +98,18 @@ old-form-not-read s room r some e = old-form-refused s r some (room-accepted (sh
 
 -- ---- one path: 15
 
--- the last record, where it has fewer numbers than its segments say
+-- the last record, where it has fewer numbers than its segments and its mark say
 record-cut : (b : List ℕ) (q : Target) (k p : ℕ) → length b ≤ mostBytes → Stands b (q ∷ []) k p → isSegments (q .segments) ≡ true
-    → isLevel sheetFinest (q .level) ≡ true → length (q .points) < pointNumbers (q .segments) → recordRefusal b k p ≡ 15
-unfolding recordAt isLevel
+    → isLevel sheetFinest (q .level) ≡ true → length (q .points) < pointNumbers (q .degree) (q .segments) → recordRefusal b k p ≡ 15
+unfolding recordAt
 record-cut b q k p h s segments level short =
     let S = segments-back b q [] k p s segments in
-    let n = level-back b q [] k p s level in
+    let m = mark-back b q [] k p s level in
     let end = stands-end b (k + 1) (p + length (recordBytes q)) (next-stands b q [] k p s) in
+    let more = rw points-in-numbers at short in
+    let cut = rw (S, m) at (record-order b p .cut) in
     record-refuses-by-body b k p (offset-back b q [] k p s h)
-    ∙ record-order b p .cut (omega (arith, end, length-record q)) (rw S segments) (omega (arith, n, leb-true (q .level) 11 level)) (omega (arith, end, length-record q, S))
+    ∙ cut (omega (arith, end, length-record q)) segments (level-holds _ (q .level) level) (omega (arith, end, length-record q, more))
 
 pub one-path-refused-15 : (upper lower : ℕ) (p : OldPath) → let s : OldSheet = record { upper = upper; lower = lower; paths = p ∷ [] } in
     OldRight s → sheetRefusal (oldBytes s) ≡ 15
@@ -122,8 +138,8 @@ widths-length [] = refl
 widths-length (p ∷ ps) = omega (arith, widths-length ps)
 
 sizes-agree : (S : ℕ) (ps : List Place)
-    → (length (placeNumbers ps) ≡ 2 * (3 * S + 1) → length (withWidths ps) ≡ pointNumbers S)
-    × (length (withWidths ps) ≡ pointNumbers S → length (placeNumbers ps) ≡ 2 * (3 * S + 1))
+    → (length (placeNumbers ps) ≡ 2 * (3 * S + 1) → length (withWidths ps) ≡ pointNumbers Cubic S)
+    × (length (withWidths ps) ≡ pointNumbers Cubic S → length (placeNumbers ps) ≡ 2 * (3 * S + 1))
 sizes-agree S ps =
     let old = places-length ps in
     let new = widths-length ps in
@@ -134,11 +150,14 @@ unfolding withWidths placeNumbers arePoints isCoordinate
 same-points [] = refl
 same-points (p ∷ ps) = ap (λ (b : Bool). isCoordinate (p .x) && (isCoordinate (p .y) && b)) (same-points ps)
 
-same-chained : (ps : List Place) → areChained sheetReach (withWidths ps) ≡ areBeside sheetReach (placeNumbers ps) (drop 2 (placeNumbers ps))
+same-chained : (ps : List Place)
+    → areChained (sheetReach Cubic) (withWidths ps) ≡ areBeside (sheetReach Cubic) (placeNumbers ps) (drop 2 (placeNumbers ps))
 unfolding withWidths placeNumbers reach areChained areBeside areNeighbours
 same-chained [] = refl
 same-chained (p ∷ []) = refl
-same-chained (p ∷ q ∷ ps) = ap (λ (b : Bool). areNeighbours sheetReach (p .x) (q .x) && (areNeighbours sheetReach (p .y) (q .y) && b)) (same-chained (q ∷ ps))
+same-chained (p ∷ q ∷ ps) =
+    let W = sheetReach Cubic in
+    ap (λ (b : Bool). areNeighbours W (p .x) (q .x) && (areNeighbours W (p .y) (q .y) && b)) (same-chained (q ∷ ps))
 
 pub old-right-with-widths : (p : OldPath) → (OldRightPath p → RightPath (newTarget p)) × (RightPath (newTarget p) → OldRightPath p)
 unfolding newTarget isSize
@@ -196,7 +215,7 @@ oldPathA = record { upper = 65536; lower = 32768; paths = pathA ∷ [] }
 pub old-document-sheet : OldRight oldPathA × (oldBytes oldPathA ≡ oldDocumentBytes) × (sheetRefusal oldDocumentBytes ≡ 15)
 unfolding oldParts oldTarget placeNumbers sheetBytes offsets records recordBytes valueBytes sheetRefusal recordsRefusal recordRefusal bodyRefusal
     isOffset pathRules headRefusal pointsRefusal areLimits isSegments isLevel reach arePoints isCoordinate areChained areBeside areNeighbours
-    recordAt valuesAt
+    recordAt valuesAt mark marked
 old-document-sheet =
     let size : OldSize pathA = record { segments = refl; numbers = refl } in
     let path : OldRightPath pathA = record { size = size; level = refl; points = refl; chained = refl } in

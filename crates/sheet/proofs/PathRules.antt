@@ -7,11 +7,12 @@ use borrow.Author.Tests.{le-leb, lt-leb, eq-eqb}
 use lib.Dec.{leb, eqb}
 use lib.ListN.{length}
 use Rattle.numbers.proofs.Tests.{and-true}
-use Rattle.rules.specs.Rules.{sheetFinest, reach, isLevel, isSegments, pointNumbers, isSize, headRefusal, arePoints, areChained, pointsRefusal}
+use Rattle.rules.specs.Rules.{sheetFinest, isLevel, isSegments, pointNumbers, isSize, headRefusal, arePoints, areChained, pointsRefusal}
 use Rattle.rules.proofs.Refusals.{rule-kept, first-kept, first-stop}
 use Rattle.rules.proofs.Order.{head-refuses-14, head-refuses-3, head-accepted, head-kept, points-accepted, points-kept}
 use Rattle.sheet.specs.Sheet.{Target, sheetReach, RightPath}
 use Rattle.sheet.specs.PathRules.{pathRules}
+use Rattle.sheet.proofs.InNumbers.{apart, reach-in-numbers}
 
 pub record Kept (there whole : Bool) (p : Target) : Type 0 where
   pub begins : there ≡ true
@@ -19,7 +20,7 @@ pub record Kept (there whole : Bool) (p : Target) : Type 0 where
   pub level : isLevel sheetFinest (p .level) ≡ true
   pub ends : whole ≡ true
   pub points : arePoints (p .points) ≡ true
-  pub chained : areChained sheetReach (p .points) ≡ true
+  pub chained : areChained (sheetReach (p .degree)) (p .points) ≡ true
 
 pub rules-kept : (short : ℕ) (begins ends : Bool) (p : Target) → pathRules (suc short) begins ends p ≡ 0 → Kept begins ends p
 unfolding pathRules
@@ -42,10 +43,10 @@ kept-rules short {p = p} k =
 pub right-kept : {there whole : Bool} {p : Target} → there ≡ true → whole ≡ true → RightPath p → Kept there whole p
 unfolding isSize
 right-kept {p = p} begins ends r =
-    let size = and-true (isSegments (p .segments)) (eqb (length (p .points)) (pointNumbers (p .segments))) (r .size) in
+    let size = and-true (isSegments (p .segments)) (eqb (length (p .points)) (pointNumbers (p .degree) (p .segments))) (r .size) in
     record { begins = begins; segments = size .0; level = r .level; ends = ends; points = r .points; chained = r .chained }
 
-pub kept-right : {there whole : Bool} {p : Target} → length (p .points) ≡ pointNumbers (p .segments) → Kept there whole p → RightPath p
+pub kept-right : {there whole : Bool} {p : Target} → length (p .points) ≡ pointNumbers (p .degree) (p .segments) → Kept there whole p → RightPath p
 unfolding isSize
 kept-right e k = record { size = ap₂ _&&_ (k .segments) (eq-eqb _ _ e); level = k .level; points = k .points; chained = k .chained }
 
@@ -70,7 +71,7 @@ module _ (short : ℕ) (begins ends : Bool) (p : Target) where
       unfolding pathRules
       refuses-cut e = rw (there, head, e)
 
-      pub refuses-by-points : ends ≡ true → pathRules short begins ends p ≡ pointsRefusal sheetReach (p .points)
+      pub refuses-by-points : ends ≡ true → pathRules short begins ends p ≡ pointsRefusal (sheetReach (p .degree)) (p .points)
       unfolding pathRules
       refuses-by-points e = rw (there, head, e)
 
@@ -81,10 +82,10 @@ pub record PathOrder (refusal short head end size : ℕ) (p : Target) : Type 0 w
   pub no-segments : head ≤ size → isSegments (p .segments) ≡ false → refusal ≡ 14
   pub no-level : head ≤ size → isSegments (p .segments) ≡ true → 11 < p .level → refusal ≡ 3
   pub cut : head ≤ size → isSegments (p .segments) ≡ true → p .level ≤ 11 → size < end → refusal ≡ short
-  pub by-points : head ≤ size → isSegments (p .segments) ≡ true → p .level ≤ 11 → end ≤ size → refusal ≡ pointsRefusal 682 (p .points)
+  pub by-points : head ≤ size → isSegments (p .segments) ≡ true → p .level ≤ 11 → end ≤ size → refusal ≡ pointsRefusal (apart (p .degree)) (p .points)
 
 pub rules-in-order : (short head end size : ℕ) (p : Target) → PathOrder (pathRules short (leb head size) (leb end size) p) short head end size p
-unfolding isLevel reach
+unfolding isLevel
 rules-in-order short head end size p =
     let S = p .segments in
     let n = p .level in
@@ -93,5 +94,6 @@ rules-in-order short head end size p =
       no-segments = λ h s. refuses-by-number short _ _ p (le-leb head size h) (head-refuses-14 _ S n s);
       no-level = λ h s l. refuses-by-number short _ _ p (le-leb head size h) (head-refuses-3 _ S n s (lt-leb n 11 l));
       cut = λ h s l e. refuses-cut short _ _ p (le-leb head size h) (head-accepted _ S n s (le-leb n 11 l)) (lt-leb end size e);
-      by-points = λ h s l e. refuses-by-points short _ _ p (le-leb head size h) (head-accepted _ S n s (le-leb n 11 l)) (le-leb end size e);
+      by-points = λ h s l e.
+          rw (← reach-in-numbers) (refuses-by-points short _ _ p (le-leb head size h) (head-accepted _ S n s (le-leb n 11 l)) (le-leb end size e));
     }

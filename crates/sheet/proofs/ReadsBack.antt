@@ -7,15 +7,15 @@ use native.Mathlib.Omega.{arith}
 use borrow.Author.Tests.{le-leb, eq-eqb}
 use lib.ListN.{length, length-append}
 use Rattle.numbers.specs.Tables.{All}
-use Rattle.rules.specs.Rules.{sheetFinest, isLevel, areLimits, isSegments}
+use Rattle.rules.specs.Rules.{sheetFinest, isLevel, areLimits, isSegments, mark, marked}
 use Rattle.rules.proofs.Refusals.{first-on}
 use Rattle.rules.proofs.Laws.{limits-hold, Sized, size-holds}
 use Rattle.sheet.specs.Bytes.{le16, le32, valueBytes, u16At, u32At, valuesAt}
 use Rattle.sheet.specs.Sheet.{Target, Sheet, headSize, recordBytes, records, offsets, sheetBytes, mostBytes, RightPath, Right}
-use Rattle.sheet.specs.Records.{recordAt, recordEnd, recordsAt, sheetAt}
+use Rattle.sheet.specs.Records.{recordMark, recordAt, recordEnd, recordsAt, sheetAt}
 use Rattle.sheet.specs.Reading.{isOffset, bodyRefusal, recordRefusal, recordsRefusal, sheetRefusal}
 use Rattle.sheet.proofs.Bytes.{u16-at, u32-at, u16-back, u32-back, bits-small, values-back}
-use Rattle.sheet.proofs.Sheets.{length-record, length-offsets, length-bytes, segments-short, level-short, points-short}
+use Rattle.sheet.proofs.Sheets.{length-record, length-offsets, length-bytes, segments-short, mark-short, mark-says, points-short}
 use Rattle.sheet.proofs.PathRules.{kept-rules, right-kept}
 use Rattle.sheet.proofs.Reading.{records-end, Headed, headed-accepted}
 
@@ -61,22 +61,23 @@ module _ (b : List ℕ) (q : Target) (ps : List Target) (k p : ℕ) (s : Stands 
   pub segments-back : isSegments (q .segments) ≡ true → u16At b p ≡ q .segments
   unfolding records recordBytes
   segments-back h =
-      let rest = le16 (q .level) ++ (valueBytes (q .points) ++ records ps) in
+      let rest = le16 (mark (q .degree) (q .level)) ++ (valueBytes (q .points) ++ records ps) in
       u16-at b (s .front) (le16 (q .segments) ++ rest) p (s .body) (s .start)
       ∙ u16-back (q .segments) rest (bits-small (segments-short (q .segments) h))
 
-  pub level-back : isLevel sheetFinest (q .level) ≡ true → u16At b (p + 2) ≡ q .level
+  pub mark-back : isLevel sheetFinest (q .level) ≡ true → recordMark b p ≡ record { degree = q .degree; level = q .level }
   unfolding records recordBytes
-  level-back h =
+  mark-back h =
+      let m = mark (q .degree) (q .level) in
       let front = le16 (q .segments) in
       let rest = valueBytes (q .points) ++ records ps in
-      let body = s .body ∙ sym (append-assoc (s .front) front (le16 (q .level) ++ rest)) in
-      u16-at b (s .front ++ front) (le16 (q .level) ++ rest) (p + 2) body (omega (arith, s .start, length-append (s .front) front))
-      ∙ u16-back (q .level) rest (bits-small (level-short (q .level) h))
+      let body = s .body ∙ sym (append-assoc (s .front) front (le16 m ++ rest)) in
+      let found = u16-at b (s .front ++ front) (le16 m ++ rest) (p + 2) body (omega (arith, s .start, length-append (s .front) front)) in
+      ap marked (found ∙ u16-back m rest (bits-small (mark-short (q .degree) (q .level) h))) ∙ mark-says (q .degree) (q .level) h
 
   module _ (r : RightPath q) where
-    sized : Sized (q .segments) (length (q .points))
-    sized = size-holds (q .segments) (length (q .points)) (r .size)
+    sized : Sized (q .degree) (q .segments) (length (q .points))
+    sized = size-holds (q .degree) (q .segments) (length (q .points)) (r .size)
 
     segments : isSegments (q .segments) ≡ true
     segments = right-kept refl refl r .segments
@@ -84,17 +85,17 @@ module _ (b : List ℕ) (q : Target) (ps : List Target) (k p : ℕ) (s : Stands 
     points-back : valuesAt b (p + 4) (length (q .points)) ≡ q .points
     unfolding records recordBytes
     points-back =
-        let front = le16 (q .segments) ++ le16 (q .level) in
+        let front = le16 (q .segments) ++ le16 (mark (q .degree) (q .level)) in
         let body = s .body ∙ sym (append-assoc (s .front) front (valueBytes (q .points) ++ records ps)) in
         let start : p + 4 ≡ length (s .front ++ front) = omega (arith, s .start, length-append (s .front) front) in
         values-back b (s .front ++ front) (q .points) (records ps) (p + 4) body start (points-short (q .points) (r .points))
 
     record-back : recordAt b p ≡ q
     unfolding recordAt
-    record-back = rw (segments-back segments, level-back (r .level), ← (sized .size), points-back)
+    record-back = rw (segments-back segments, mark-back (r .level), ← (sized .size), points-back)
 
     end-back : recordEnd b p ≡ p + length (recordBytes q)
-    end-back = omega (arith, segments-back segments, length-record q, sized .size)
+    end-back = rw (segments-back segments, mark-back (r .level), ← (sized .size)) (omega (arith, length-record q))
 
     record-accepted : length b ≤ mostBytes → recordRefusal b k p ≡ 0
     unfolding recordRefusal bodyRefusal isOffset

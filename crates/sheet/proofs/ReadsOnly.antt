@@ -6,11 +6,11 @@ use native.Mathlib.Nat.{zero-add, add-zero}
 use native.Mathlib.Omega.{arith}
 use lib.ListN.{length, drop, drop-of-length-le}
 use Rattle.numbers.specs.Tables.{All}
-use Rattle.rules.specs.Rules.{pointNumbers}
 use Rattle.rules.proofs.Refusals.{first-kept}
+use Rattle.rules.proofs.Marks.{marked-back}
 use Rattle.sheet.specs.Bytes.{Bytes, le16, le32, u16At, u32At}
 use Rattle.sheet.specs.Sheet.{headSize, recordBytes, records, offsets, sheetBytes, RightPath, Right}
-use Rattle.sheet.specs.Records.{recordAt, recordEnd, recordsAt, sheetAt}
+use Rattle.sheet.specs.Records.{recordPointNumbers, recordAt, recordEnd, recordsAt, sheetAt}
 use Rattle.sheet.specs.Reading.{recordRefusal, recordsRefusal, sheetRefusal}
 use Rattle.sheet.proofs.Bytes.{values-length, u16-only, u32-only, values-only}
 use Rattle.sheet.proofs.Sheets.{length-record}
@@ -24,7 +24,7 @@ unfolding recordsRefusal recordsAt recordAt
 records-right b zero k p e = tt
 records-right b (suc n) k p e =
     let t = first-kept (recordRefusal b k p) _ e in (
-      kept-right (values-length b (p + 4) (pointNumbers (u16At b p))) (record-held b k p (t .0) .kept),
+      kept-right (values-length b (p + 4) (recordPointNumbers b p)) (record-held b k p (t .0) .kept),
       records-right b n (k + 1) (recordEnd b p) (t .1),
     )
 
@@ -33,7 +33,7 @@ records-right b (suc n) k p e =
 -- a record ends where the bytes of its path do
 end-only : (b : List ℕ) (p : ℕ) → p + length (recordBytes (recordAt b p)) ≡ recordEnd b p
 unfolding recordAt
-end-only b p = omega (arith, length-record (recordAt b p), values-length b (p + 4) (pointNumbers (u16At b p)))
+end-only b p = omega (arith, length-record (recordAt b p), values-length b (p + 4) (recordPointNumbers b p))
 
 module _ (b : List ℕ) (bs : Bytes b) where
   record-only : (p : ℕ) → recordEnd b p ≤ length b → drop p b ≡ recordBytes (recordAt b p) ++ drop (recordEnd b p) b
@@ -42,7 +42,7 @@ module _ (b : List ℕ) (bs : Bytes b) where
       let e : p + 2 + 2 ≡ p + 4 = omega arith in
       u16-only b bs p (omega arith)
       ∙ ap (λ (y : List ℕ). le16 (u16At b p) ++ y)
-      (u16-only b bs (p + 2) (omega arith) ∙ rw (e, values-only b bs (p + 4) (pointNumbers (u16At b p)) h))
+      (u16-only b bs (p + 2) (omega arith) ∙ rw (e, marked-back, values-only b bs (p + 4) (recordPointNumbers b p) h))
 
   records-only : (n k p : ℕ) → recordsRefusal b n k p ≡ 0 → drop p b ≡ records (recordsAt b n p)
   unfolding recordsRefusal recordsAt records

@@ -13,11 +13,12 @@ use Rattle.rules.specs.Rules.{areLimits}
 use Rattle.rules.proofs.Refusals.{first-stop}
 use Rattle.sheet.specs.Bytes.{u16At, u32At}
 use Rattle.sheet.specs.Sheet.{sheetBytes, sheetNumbers}
-use Rattle.sheet.specs.Records.{recordAt, recordEnd, sheetAt}
-use Rattle.sheet.specs.NumberList.{numberAt, pathAt, pathEnd, sheetOf}
+use Rattle.sheet.specs.Records.{recordMark, recordAt, recordEnd, sheetAt}
+use Rattle.sheet.specs.NumberList.{numberAt, pathMark, pathAt, pathEnd, sheetOf}
 use Rattle.sheet.specs.Reading.{isOffset, bodyRefusal, recordRefusal, recordsRefusal, sheetRefusal, readRefusal}
 use Rattle.sheet.specs.Writing.{pathRefusal, pathsRefusal, listRefusal, writeRefusal}
 use Rattle.sheet.specs.Answer.{refusedBy, readAnswer, writeAnswer}
+use Rattle.sheet.proofs.InNumbers.{pathPoints, points-in-numbers}
 use Rattle.sheet.proofs.PathRules.{PathOrder, rules-in-order}
 use Rattle.sheet.proofs.Room.{room-short, room-refused}
 
@@ -64,17 +65,17 @@ module _ (b : List ℕ) (k p : ℕ) where
 
 -- ---- one path, in a sheet and in a number list
 
--- a record at p: 15 for its first four bytes, 14, 3, 15 for its 3S + 1 points of two bytes in x, in y and in width, then 1 and 2
+-- a record at p: 15 for its first four bytes, 14, 3, 15 for the points of its degree, of two bytes in x, in y and in width, then 1 and 2
 pub record-order : (b : List ℕ) (p : ℕ)
-    → PathOrder (bodyRefusal b p) 15 (p + 4) (p + 4 + 2 * (3 * (3 * u16At b p + 1))) (length b) (recordAt b p)
+    → PathOrder (bodyRefusal b p) 15 (p + 4) (p + 4 + 2 * (3 * pathPoints (recordMark b p .degree) (u16At b p))) (length b) (recordAt b p)
 unfolding bodyRefusal
-record-order b p = rules-in-order 15 (p + 4) (recordEnd b p) (length b) (recordAt b p)
+record-order b p = rw (← points-in-numbers) (rules-in-order 15 (p + 4) (recordEnd b p) (length b) (recordAt b p))
 
--- a path at i: 17 for its first two numbers, 14, 3, 17 for its 3S + 1 points of three numbers, then 1 and 2
+-- a path at i: 17 for its first two numbers, 14, 3, 17 for the points of its degree, of three numbers, then 1 and 2
 pub path-order : (l : List ℤ) (i : ℕ)
-    → PathOrder (pathRefusal l i) 17 (i + 2) (i + 2 + 3 * (3 * numberAt l i + 1)) (length l) (pathAt l i)
+    → PathOrder (pathRefusal l i) 17 (i + 2) (i + 2 + 3 * pathPoints (pathMark l i .degree) (numberAt l i)) (length l) (pathAt l i)
 unfolding pathRefusal
-path-order l i = rules-in-order 17 (i + 2) (pathEnd l i) (length l) (pathAt l i)
+path-order l i = rw (← points-in-numbers) (rules-in-order 17 (i + 2) (pathEnd l i) (length l) (pathAt l i))
 
 -- ---- 9 after all of a sheet's refusals
 

@@ -11,8 +11,11 @@ use lib.ListN.{length, length-append}
 use Rattle.numbers.proofs.Tests.{and-true}
 use Rattle.numbers.specs.Tables.{All}
 use Rattle.numbers.proofs.Tables.{all-append}
-use Rattle.rules.specs.Rules.{sheetFinest, isCoordinate, isLevel, arePoints, mostSegments, isSegments}
-use Rattle.rules.proofs.Laws.{coordinate-size, size-holds}
+use Rattle.rules.specs.declared.Degree.{Degree}
+use Rattle.rules.specs.declared.Degree.the-variants.{Quadratic, Cubic}
+use Rattle.rules.specs.Rules.{sheetFinest, isCoordinate, isLevel, arePoints, mostSegments, isSegments, mark, marked}
+use Rattle.rules.proofs.Laws.{coordinate-size, level-holds, size-holds}
+use Rattle.rules.proofs.Marks.{mark-back}
 use Rattle.sheet.specs.Bytes.{Short, up, down, le16, bits16, valueBytes}
 use Rattle.sheet.specs.Sheet.{Target, Sheet, headSize, recordBytes, records, offsets, sheetBytes, pathNumbers, sheetNumbers, RightPath, Right}
 use Rattle.sheet.proofs.Bytes.{length-values}
@@ -28,7 +31,7 @@ pub records-flat : (ps : List Target) → records ps ≡ valueBytes (pathNumbers
 unfolding records recordBytes pathNumbers valueBytes
 records-flat [] = refl
 records-flat (p ∷ ps) =
-    ap (λ (b : List ℕ). le16 (p .segments) ++ (le16 (p .level) ++ b))
+    ap (λ (b : List ℕ). le16 (p .segments) ++ (le16 (mark (p .degree) (p .level)) ++ b))
     (ap (λ (b : List ℕ). valueBytes (p .points) ++ b) (records-flat ps) ∙ sym (values-append (p .points) (pathNumbers ps)))
 
 -- ---- lengths
@@ -74,18 +77,23 @@ pub segments-short : (n : ℕ) → isSegments n ≡ true → Short (pos n)
 unfolding isSegments
 segments-short n e = up {n = n} (omega (arith, leb-true n mostSegments (and-true (leb 1 n) (leb n mostSegments) e .1)))
 
-pub level-short : (n : ℕ) → isLevel sheetFinest n ≡ true → Short (pos n)
-unfolding isLevel
-level-short n e = up {n = n} (omega (arith, leb-true n _ e))
+pub mark-short : (D : Degree) (n : ℕ) → isLevel sheetFinest n ≡ true → Short (pos (mark D n))
+unfolding mark
+mark-short Quadratic n e = up {n = n + 256} (omega (arith, level-holds _ n e))
+mark-short Cubic n e = up {n = n} (omega (arith, level-holds _ n e))
 
 pub right-short : (ps : List Target) → All RightPath ps → All Short (pathNumbers ps)
 unfolding pathNumbers
 right-short [] r = tt
 right-short (p ∷ ps) r =
-    let size = size-holds (p .segments) _ (r .0 .size) in
+    let size = size-holds _ (p .segments) _ (r .0 .size) in
     let segments : Short (pos (p .segments)) = up {n = p .segments} (omega (arith, size .most)) in
     let points = all-append Short (p .points) (pathNumbers ps) (points-short (p .points) (r .0 .points)) (right-short ps (r .1)) in
-    (segments, (level-short (p .level) (r .0 .level), points))
+    (segments, (mark-short (p .degree) (p .level) (r .0 .level), points))
+
+-- and its mark says its degree and its level
+pub mark-says : (D : Degree) (n : ℕ) → isLevel sheetFinest n ≡ true → marked (mark D n) ≡ record { degree = D; level = n }
+mark-says D n e = mark-back D n (omega (arith, level-holds _ n e))
 
 -- a right sheet's number list has at most 16,381 numbers
 pub largest : (s : Sheet) → Right s → length (sheetNumbers s) ≤ 16381

@@ -9,12 +9,13 @@ use lib.IntN.{ℤ, pos}
 use lib.ListN.{length, drop, length-append, length-drop}
 use lib.Seq.{take-append-seam, drop-append-seam, getD-drop, drop-drop}
 use Rattle.numbers.specs.Tables.{All}
-use Rattle.rules.specs.Rules.{pointNumbers}
+use Rattle.rules.specs.Rules.{marked}
 use Rattle.rules.proofs.Refusals.{first-on}
 use Rattle.rules.proofs.Laws.{size-holds}
 use Rattle.sheet.specs.Sheet.{Target, Sheet, pathNumbers, sheetNumbers, RightPath, Right}
-use Rattle.sheet.specs.NumberList.{numberAt, pathAt, pathEnd, pathsAt, sheetOf}
+use Rattle.sheet.specs.NumberList.{numberAt, pathMark, pathPointNumbers, pathAt, pathEnd, pathsAt, sheetOf}
 use Rattle.sheet.specs.Writing.{pathRefusal, pathsRefusal, listRefusal}
+use Rattle.sheet.proofs.Sheets.{mark-says}
 use Rattle.sheet.proofs.PathRules.{kept-rules, right-kept}
 use Rattle.sheet.proofs.Writing.{paths-end, listed-accepted}
 
@@ -27,19 +28,23 @@ module _ (l : List ℤ) (i : ℕ) (p : Target) (ps : List Target) (e : drop i l 
   unfolding pathNumbers
   segments-back = rw add-zero at (number-back 0)
 
+  mark-back : pathMark l i ≡ record { degree = p .degree; level = p .level }
+  unfolding pathNumbers
+  mark-back = ap marked (number-back 1) ∙ mark-says (p .degree) (p .level) (r .level)
+
   points-there : drop (i + 2) l ≡ p .points ++ pathNumbers ps
   unfolding pathNumbers
   points-there = sym (drop-drop 2 i l) ∙ rw e
 
-  points-count : pointNumbers (numberAt l i) ≡ length (p .points)
-  points-count = rw segments-back (sym (size-holds _ _ (r .size) .size))
+  points-count : pathPointNumbers l i ≡ length (p .points)
+  points-count = rw (segments-back, mark-back) (sym (size-holds _ _ _ (r .size) .size))
 
   path-back : pathAt l i ≡ p
   unfolding pathNumbers pathAt
-  path-back = rw (points-count, segments-back, number-back 1, points-there, take-append-seam)
+  path-back = rw (points-count, segments-back, mark-back, points-there, take-append-seam)
 
   others-there : drop (pathEnd l i) l ≡ pathNumbers ps
-  others-there = sym (drop-drop (pointNumbers (numberAt l i)) (i + 2) l) ∙ rw (points-count, points-there, drop-append-seam)
+  others-there = sym (drop-drop (pathPointNumbers l i) (i + 2) l) ∙ rw (points-count, points-there, drop-append-seam)
 
   path-inside : pathEnd l i ≤ length l
   unfolding pathNumbers

@@ -11,15 +11,17 @@ use lib.ListN.{length, getD, take, drop, length-drop, take-append-drop, drop-of-
 use lib.Seq.{length-take-le, drop-drop}
 use Rattle.numbers.specs.Tables.{All}
 use Rattle.rules.specs.Refusals.{firstOf}
-use Rattle.rules.specs.Rules.{isLevel, areLimits, pointNumbers}
+use Rattle.rules.specs.Rules.{areLimits}
 use Rattle.rules.proofs.Refusals.{rule-kept, first-kept, first-on, first-stop}
 use Rattle.rules.proofs.Laws.{size-holds, accepted}
+use Rattle.rules.proofs.Marks.{marked-back}
 use Rattle.sheet.specs.Bytes.{Short}
 use Rattle.sheet.specs.Sheet.{mostBytes, mostPaths, listHead, pathHead, sheetBytes, pathNumbers, RightPath}
-use Rattle.sheet.specs.NumberList.{numberAt, pathAt, pathEnd, pathsAt, sheetOf}
+use Rattle.sheet.specs.NumberList.{numberAt, pathMark, pathPointNumbers, pathAt, pathEnd, pathsAt, sheetOf}
 use Rattle.sheet.specs.Writing.{pathRefusal, pathsRefusal, Parted, listRefusal}
 use Rattle.sheet.proofs.PathRules.{Kept, rules-kept, kept-right}
-use Rattle.sheet.proofs.Sheets.{right-short}
+use Rattle.sheet.proofs.Bytes.{bits-small}
+use Rattle.sheet.proofs.Sheets.{mark-short, right-short}
 use Rattle.sheet.proofs.NumberList.{two-numbers}
 
 -- ---- the refusals of the paths
@@ -58,7 +60,7 @@ module _ (l : List ℤ) (i : ℕ) (e : pathRefusal l i ≡ 0) where
   pub path-fits : pathEnd l i ≤ length l
   path-fits = leb-true (pathEnd l i) (length l) (path-kept .ends)
 
-  pub path-points : length (pathAt l i .points) ≡ pointNumbers (numberAt l i)
+  pub path-points : length (pathAt l i .points) ≡ pathPointNumbers l i
   unfolding pathAt
   path-points = length-take-le _ (drop (i + 2) l) (omega (arith, path-fits, length-drop (i + 2) l))
 
@@ -67,13 +69,14 @@ module _ (l : List ℤ) (i : ℕ) (e : pathRefusal l i ≡ 0) where
   path-right = kept-right path-points path-kept
 
   path-numbers : drop i l ≡ pos (numberAt l i) ∷ pos (numberAt l (i + 1)) ∷ (pathAt l i .points ++ drop (pathEnd l i) l)
-  unfolding pathAt isLevel
+  unfolding pathAt
   path-numbers =
-      let segments = accepted (getD l i (pos 0)) (omega (arith, size-holds _ _ (path-right .size) .most)) in
-      let level = accepted (getD l (i + 1) (pos 0)) (omega (arith, leb-true (numberAt l (i + 1)) _ (path-kept .level))) in
-      let n = pointNumbers (numberAt l i) in
+      let segments = accepted (getD l i (pos 0)) (omega (arith, size-holds _ _ _ (path-right .size) .most)) in
+      let small = rw marked-back at (bits-small (mark-short (pathMark l i .degree) _ (path-kept .level))) in
+      let mark = accepted (getD l (i + 1) (pos 0)) (omega arith) in
+      let n = pathPointNumbers l i in
       let points = sym (take-append-drop n (drop (i + 2) l)) ∙ ap (λ (m : List ℤ). take n (drop (i + 2) l) ++ m) (drop-drop n (i + 2) l) in
-      two-numbers l i (omega (arith, path-fits)) ∙ ap₂ _∷_ segments (ap₂ _∷_ level points)
+      two-numbers l i (omega (arith, path-fits)) ∙ ap₂ _∷_ segments (ap₂ _∷_ mark points)
 
 -- ---- n paths
 
@@ -85,7 +88,7 @@ paths-numbers l zero i h e = (tt, drop-of-length-le l {i = i} (omega (arith, eqb
 paths-numbers l (suc n) i h e =
     let k = first-kept (pathRefusal l i) (pathsRefusal l n (pathEnd l i)) e in
     let rest = paths-numbers l n (pathEnd l i) (path-fits l i (k .0)) (k .1) in
-    ((path-right l i (k .0), rest .0), path-numbers l i (k .0) ∙ rw (rest .1))
+    ((path-right l i (k .0), rest .0), path-numbers l i (k .0) ∙ rw (marked-back, rest .1))
 
 pub paths-short : (l : List ℤ) (n i : ℕ) → i ≤ length l → pathsRefusal l n i ≡ 0 → All Short (drop i l)
 paths-short l n i h e = let p = paths-numbers l n i h e in rw (p .1) (right-short (pathsAt l n i) (p .0))

@@ -1,5 +1,5 @@
--- The old form of a sheet, as document 01 has it: a point is x and y, without a width. It is neither read nor written any more; it stands here
--- for what is proved of it in proofs/OldForm, that a sheet of the old form with any path in it is refused.
+-- The old form of a sheet, as document 01 has it: every path is cubic, and a point is x and y, without a width. It is neither read nor written
+-- any more; it stands here for what is proved of it in proofs/OldForm, that a sheet of the old form with any path in it is refused.
 use mathlib.Core.Path.{_≡_}
 use mathlib.Core.Bool.{true}
 use mathlib.Core.List.{List, [], _∷_, map}
@@ -7,6 +7,7 @@ use Prim.Native.Nat.{ℕ, _+_, _*_, _≤_}
 use lib.IntN.{ℤ, pos}
 use lib.ListN.{length, drop}
 use Rattle.numbers.specs.Tables.{All}
+use Rattle.rules.specs.declared.Degree.the-variants.{Cubic}
 use Rattle.rules.specs.Rules.{sheetFinest, isLevel, areLimits, isSegments, arePoints, areBeside}
 use Rattle.sheet.specs.Sheet.{Target, Sheet, sheetBytes, sheetReach}
 
@@ -34,7 +35,7 @@ placeNumbers (p ∷ ps) = p .x ∷ p .y ∷ placeNumbers ps
 
 -- the path and the sheet with their points as numbers
 unfoldable pub oldTarget : OldPath → Target
-oldTarget p = record { segments = p .segments; level = p .level; points = placeNumbers (p .points) }
+oldTarget p = record { degree = Cubic; segments = p .segments; level = p .level; points = placeNumbers (p .points) }
 
 unfoldable pub oldParts : OldSheet → Sheet
 oldParts s = record { upper = s .upper; lower = s .lower; paths = map oldTarget (s .paths) }
@@ -50,7 +51,7 @@ withWidths [] = []
 withWidths (p ∷ ps) = p .x ∷ p .y ∷ pos 0 ∷ withWidths ps
 
 unfoldable pub newTarget : OldPath → Target
-newTarget p = record { segments = p .segments; level = p .level; points = withWidths (p .points) }
+newTarget p = record { degree = Cubic; segments = p .segments; level = p .level; points = withWidths (p .points) }
 
 -- ---- right sheets of the old form
 
@@ -64,7 +65,7 @@ pub record OldRightPath (p : OldPath) : Type 0 where
   pub size : OldSize p
   pub level : isLevel sheetFinest (p .level) ≡ true
   pub points : arePoints (placeNumbers (p .points)) ≡ true
-  pub chained : areBeside sheetReach (placeNumbers (p .points)) (drop 2 (placeNumbers (p .points))) ≡ true
+  pub chained : areBeside (sheetReach Cubic) (placeNumbers (p .points)) (drop 2 (placeNumbers (p .points))) ≡ true
 
 pub record OldRight (s : OldSheet) : Type 0 where
   pub few : length (s .paths) ≤ 1024

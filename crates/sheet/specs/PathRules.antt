@@ -5,10 +5,10 @@ use Rattle.rules.specs.Refusals.{unless, firstOf}
 use Rattle.rules.specs.Rules.{sheetFinest, headRefusal, pointsRefusal}
 use Rattle.sheet.specs.Sheet.{Target, sheetReach}
 
--- `begins`: its segments and level are there; `ends`: its points are there too. One that ends early has the number `short`: 15 of a sheet,
+-- `begins`: its segments and mark are there; `ends`: its points are there too. One that ends early has the number `short`: 15 of a sheet,
 -- 17 of a number list. So: short, 14, 3, short, 1, 2.
 unfoldable pub pathRules : ℕ → Bool → Bool → Target → ℕ
 pathRules short begins ends p =
     unless begins short
     (firstOf (headRefusal sheetFinest (p .segments) (p .level))
-    (unless ends short (pointsRefusal sheetReach (p .points))))
+    (unless ends short (pointsRefusal (sheetReach (p .degree)) (p .points))))

@@ -6,11 +6,13 @@ use Prim.Native.Nat.{ℕ, _+_, _*_, _/_, _≤_}
 use lib.IntN.{ℤ, pos}
 use lib.ListN.{length}
 use Rattle.numbers.specs.Tables.{All}
-use Rattle.rules.specs.Rules.{sheetFinest, reach, isLevel, areLimits, isSize, arePoints, areChained}
+use Rattle.rules.specs.declared.Degree.{Degree}
+use Rattle.rules.specs.Rules.{sheetFinest, reach, isLevel, areLimits, isSize, arePoints, areChained, mark}
 use Rattle.sheet.specs.Bytes.{valueSize, le16, le32, valueBytes}
 
 -- one path of a sheet; points: x0, y0, width0, x1, y1, width1, ..
 pub record Target : Type 0 where
+  pub degree : Degree
   pub segments : ℕ
   pub level : ℕ
   pub points : List ℤ
@@ -33,9 +35,9 @@ offsetSize = 4
 abbrev pub headSize : ℕ → ℕ
 headSize N = leastBytes + offsetSize * N
 
--- segments, start level, and x, y and width of each point
+-- segments, mark, and x, y and width of each point
 unfoldable pub recordBytes : Target → List ℕ
-recordBytes p = le16 (p .segments) ++ (le16 (p .level) ++ valueBytes (p .points))
+recordBytes p = le16 (p .segments) ++ (le16 (mark (p .degree) (p .level)) ++ valueBytes (p .points))
 
 unfoldable pub records : List Target → List ℕ
 records [] = []
@@ -53,7 +55,7 @@ sheetBytes s =
 
 -- ---- its number list
 
--- count, upper and lower before the paths; segments and start level before a path's points, in a list and in a record
+-- count, upper and lower before the paths; segments and mark before a path's points, in a list and in a record
 abbrev pub listHead : ℕ
 listHead = 3
 
@@ -65,23 +67,23 @@ recordHead = valueSize * pathHead
 
 unfoldable pub pathNumbers : List Target → List ℤ
 pathNumbers [] = []
-pathNumbers (p ∷ ps) = pos (p .segments) ∷ pos (p .level) ∷ (p .points ++ pathNumbers ps)
+pathNumbers (p ∷ ps) = pos (p .segments) ∷ pos (mark (p .degree) (p .level)) ∷ (p .points ++ pathNumbers ps)
 
 unfoldable pub sheetNumbers : Sheet → List ℤ
 sheetNumbers s = pos (length (s .paths)) ∷ pos (s .upper) ∷ pos (s .lower) ∷ pathNumbers (s .paths)
 
 -- ---- right sheets
 
--- how far apart neighbours may be at the finest level of a sheet's paths
-abbrev pub sheetReach : ℕ
-sheetReach = reach sheetFinest
+-- how far apart the neighbours of a path may be, at the finest level of a sheet's paths
+abbrev pub sheetReach : Degree → ℕ
+sheetReach D = reach D sheetFinest
 
 -- every rule of a path but for the limits, which are the sheet's
 pub record RightPath (p : Target) : Type 0 where
-  pub size : isSize (p .segments) (length (p .points)) ≡ true
+  pub size : isSize (p .degree) (p .segments) (length (p .points)) ≡ true
   pub level : isLevel sheetFinest (p .level) ≡ true
   pub points : arePoints (p .points) ≡ true
-  pub chained : areChained sheetReach (p .points) ≡ true
+  pub chained : areChained (sheetReach (p .degree)) (p .points) ≡ true
 
 pub record Right (s : Sheet) : Type 0 where
   pub few : length (s .paths) ≤ 1024

@@ -10,14 +10,14 @@ pub const MOST_BYTES: usize = 32768;
 
 pub const MOST_NUMBERS: usize = MOST_BYTES / VALUE_SIZE;
 
-// In bytes: an offset; a number of a record; the segments and the level before a record's points.
+// In bytes: an offset; a number of a record; the segments and the mark before a record's points.
 pub const OFFSET_SIZE: usize = 4;
 
 pub const VALUE_SIZE: usize = 2;
 
 pub const RECORD_HEAD: usize = VALUE_SIZE * PATH_HEAD;
 
-// In numbers: the count and the limits before a number list's paths; the segments and the level before a path's points.
+// In numbers: the count and the limits before a number list's paths; the segments and the mark before a path's points.
 pub const LIST_HEAD: usize = 3;
 
 pub const PATH_HEAD: usize = 2;

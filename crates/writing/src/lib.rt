@@ -5,11 +5,12 @@ ghost use lib.ListN.{length, drop};
 ghost use lib.Seq.{sets};
 ghost use Rattle.numbers.specs.Tables.{All};
 ghost use Rattle.sheet.specs.Bytes.{Short, valueSize, le16, le32, bits16, valueBytes};
-ghost use Rattle.sheet.specs.Sheet.{leastBytes, mostBytes, listHead, headSize, offsets, sheetBytes};
-ghost use Rattle.sheet.specs.NumberList.{numberAt, pathsAt, sheetOf};
+ghost use Rattle.sheet.specs.Sheet.{leastBytes, mostBytes, listHead, pathHead, headSize, offsets, sheetBytes};
+ghost use Rattle.sheet.specs.NumberList.{numberAt, pathMark, pathPointNumbers, pathsAt, sheetOf};
 ghost use Rattle.sheet.specs.Writing.{pathRefusal, pathsRefusal, Parted, listRefusal};
 ghost use Rattle.sheet.specs.Answer.{refusedBy, writeAnswer, bytesWritten};
 use rules::Limits;
+use rules::Marked;
 use rules::SHEET_FINEST;
 use sheet::LEAST_BYTES;
 use sheet::LIST_HEAD;
@@ -92,7 +93,7 @@ fn paths_refusal(numbers: &[i32], paths: u32) -> u32
         if refusal != 0 {
             return refusal;
         }
-        at += PATH_HEAD + rules::point_numbers(number_at(numbers, at));
+        at += PATH_HEAD + path_point_numbers(numbers, at);
         left -= 1;
     }
     if at != numbers.len() {
@@ -108,16 +109,37 @@ fn path_refusal(numbers: &[i32], at: usize) -> u32
     if numbers.len() < at + PATH_HEAD {
         return 17;
     }
-    let segments = number_at(numbers, at);
-    let refusal = rules::head_refusal(SHEET_FINEST, segments, number_at(numbers, at + 1));
+    let marked = path_mark(numbers, at);
+    let refusal = rules::head_refusal(SHEET_FINEST, number_at(numbers, at), marked.level);
     if refusal != 0 {
         return refusal;
     }
-    let end = at + PATH_HEAD + rules::point_numbers(segments);
+    let end = at + PATH_HEAD + path_point_numbers(numbers, at);
     if numbers.len() < end {
         return 17;
     }
-    rules::points_refusal(rules::reach(SHEET_FINEST), &numbers[at + PATH_HEAD..end])
+    let degree = marked.degree;
+    rules::points_refusal(
+        rules::reach(degree, SHEET_FINEST),
+        &numbers[at + PATH_HEAD..end],
+    )
+}
+
+// The degree and the start level of the path at `at`.
+fn path_mark(numbers: &[i32], at: usize) -> Marked
+    requires { ⌜ at + pathHead ≤ length (now numbers) ⌝ }
+    ensures { λ r. ⌜ r ≡ pathMark (now (numbers .entry)) at ⌝ }
+{
+    Marked::by(number_at(numbers, at + 1))
+}
+
+// How many numbers the points of the path at `at` are.
+fn path_point_numbers(numbers: &[i32], at: usize) -> usize
+    requires { ⌜ at + pathHead ≤ length (now numbers) ⌝ }
+    ensures { λ r. ⌜ r ≡ pathPointNumbers (now (numbers .entry)) at ⌝ }
+{
+    let degree = path_mark(numbers, at).degree;
+    rules::point_numbers(degree, number_at(numbers, at))
 }
 
 // ---- the bytes of an accepted number list
@@ -155,7 +177,7 @@ fn put_offsets(numbers: &[i32], paths: u32, sheet: &mut [u8])
     let mut left = paths;
     while 0 < left {
         put_u32(sheet, to, place as u32);
-        let n = rules::point_numbers(number_at(numbers, at));
+        let n = path_point_numbers(numbers, at);
         place += RECORD_HEAD + VALUE_SIZE * n;
         at += PATH_HEAD + n;
         to += OFFSET_SIZE;
@@ -178,7 +200,7 @@ fn put_values(numbers: &[i32], sheet: &mut [u8], p: usize)
     }
 }
 
-// A count, a limit, segments or a level: number i of a list.
+// A count, a limit, segments or a mark: number i of a list.
 fn number_at(numbers: &[i32], i: usize) -> u32
     requires { ⌜ i < length (now numbers) ⌝ }
     ensures { λ r. ⌜ r ≡ numberAt (now (numbers .entry)) i ⌝ }

@@ -5,18 +5,19 @@ use mathlib.Core.List.{List}
 use Prim.Native.Nat.{ℕ, _+_, _≤_}
 use native.Mathlib.Omega.{arith}
 use borrow.Author.Needs.{needs}
-use borrow.Author.Tests.{leb-true, le-leb, lt-leb}
+use borrow.Author.Tests.{le-leb, lt-leb}
 use lib.Dec.{leb}
 use lib.IntN.{ℤ}
 use lib.ListN.{length, take}
 use lib.Seq.{sets, take-at, length-take-le}
-use Rattle.numbers.proofs.Tests.{and-true}
 use Rattle.numbers.proofs.Buffers.{sets-front}
-use Rattle.rules.specs.Rules.{sheetFinest, mostSegments, isSegments, pointNumbers, headRefusal, pointsRefusal}
+use Rattle.rules.specs.declared.Marked.{Marked}
+use Rattle.rules.specs.Rules.{sheetFinest, headRefusal, pointsRefusal}
+use Rattle.rules.proofs.Laws.{few-numbers}
 use Rattle.rules.proofs.Order.{head-kept}
-use Rattle.sheet.specs.Bytes.{valueSize, u16At, valuesAt}
-use Rattle.sheet.specs.Sheet.{recordHead}
-use Rattle.sheet.specs.Records.{recordAt}
+use Rattle.sheet.specs.Bytes.{u16At, valuesAt}
+use Rattle.sheet.specs.Sheet.{recordHead, sheetReach}
+use Rattle.sheet.specs.Records.{recordMark, recordPointNumbers, recordAt}
 use Rattle.sheet.specs.Reading.{bodyRefusal}
 use Rattle.sheet.proofs.Bytes.{values-length}
 use Rattle.sheet.proofs.PathRules.{refuses-no-head, refuses-by-head, refuses-cut, refuses-by-points}
@@ -30,28 +31,26 @@ returns : tie.Need-returns
 unfolding bodyRefusal
 returns c = sym (refuses-no-head 15 _ _ _ (lt-leb _ _ (c .if1 .taken)))
 
+record-mark-requires : tie.Need-record-mark-requires
+record-mark-requires c κs = search needs
+
 u16-at-requires : tie.Need-u16-at-requires
 u16-at-requires c κs = search needs
-
-add-u16-at : tie.Need-add-u16-at
-add-u16-at c = search needs
-
-u16-at-requires-2 : tie.Need-u16-at-requires-2
-u16-at-requires-2 c κs = search needs
 
 head-refusal-requires : tie.Need-head-refusal-requires
 head-refusal-requires c κs = search needs
 
--- ---- the segments and the level
+-- ---- the segments and the mark
 
 begins : (c : tie.Else1) → let a = c .before .before .args in leb (a .at + recordHead) (length (a .sheet .now)) ≡ true
 begins c = le-leb _ _ (c .if1 .left)
 
 head-asked : (c : tie.After-head-refusal)
     → let a = c .before .before .before .before .before .args in
-    c .head-refusal .result ≡ headRefusal sheetFinest (u16At (a .sheet .now) (a .at)) (u16At (a .sheet .now) (a .at + valueSize))
+    c .head-refusal .result ≡ headRefusal sheetFinest (u16At (a .sheet .now) (a .at)) (recordMark (a .sheet .now) (a .at) .level)
 head-asked c =
-    c .head-refusal .ensures ∙ ap₂ (headRefusal sheetFinest) (c .before .before .u16-at .ensures .0) (c .before .u16-at2 .ensures .0)
+    c .head-refusal .ensures
+    ∙ ap₂ (λ (S : ℕ) (m : Marked). headRefusal sheetFinest S (m .level)) (c .before .u16-at .ensures .0) (c .before .before .record-mark .ensures)
 
 returns-2 : tie.Need-returns-2
 unfolding bodyRefusal recordAt
@@ -61,42 +60,35 @@ returns-2 c =
 
 head : (c : tie.Else2)
     → let a = c .before .before .before .before .before .before .args in
-    headRefusal sheetFinest (u16At (a .sheet .now) (a .at)) (u16At (a .sheet .now) (a .at + valueSize)) ≡ 0
+    headRefusal sheetFinest (u16At (a .sheet .now) (a .at)) (recordMark (a .sheet .now) (a .at) .level) ≡ 0
 head c = sym (head-asked (c .before)) ∙ c .if2 .left
 
 -- ---- how many numbers the points have
 
-point-numbers-requires : tie.Need-point-numbers-requires
-point-numbers-requires c κs = search needs
+record-point-numbers-requires : tie.Need-record-point-numbers-requires
+record-point-numbers-requires c κs = search needs
 
 add-if3 : tie.Need-add-if3
 add-if3 c = search needs
 
+few : (c : tie.After-record-point-numbers) → c .record-point-numbers .result ≤ 579
+few c =
+    let a = c .before .before .before .before .before .before .before .args in
+    let D = recordMark (a .sheet .now) (a .at) .degree in
+    rw (c .record-point-numbers .ensures) (few-numbers D _ (head-kept sheetFinest _ _ (head (c .before)) .0))
+
 mul-if3 : tie.Need-mul-if3
-mul-if3 c = search needs
+mul-if3 c = omega (arith, few c)
 
 add-if3-2 : tie.Need-add-if3-2
-add-if3-2 c = search needs
-
-count : (c : tie.After-point-numbers)
-    → let a = c .before .before .before .before .before .before .before .args in
-    c .point-numbers .result ≡ pointNumbers (u16At (a .sheet .now) (a .at))
-count c = c .point-numbers .ensures ∙ ap pointNumbers (c .before .before .before .before .u16-at .ensures .0)
+add-if3-2 c = omega (arith, few c)
 
 returns-3 : tie.Need-returns-3
 unfolding bodyRefusal recordAt
 returns-3 c =
     let e = c .before .before in
-    let cut = lt-leb _ _ (rw (count (c .before)) at (c .if3 .taken)) in
+    let cut = lt-leb _ _ (rw (c .before .record-point-numbers .ensures) at (c .if3 .taken)) in
     sym (refuses-cut 15 _ _ _ (begins (e .before .before .before .before)) (head e) cut)
-
--- a path of at most 64 segments has at most 579 numbers
-few : (n : ℕ) → isSegments n ≡ true → pointNumbers n ≤ pointNumbers mostSegments
-unfolding isSegments
-few n e = omega (arith, leb-true n mostSegments (and-true (leb 1 n) (leb n mostSegments) e .1))
-
-few-numbers : (c : tie.Else3) → c .before .point-numbers .result ≤ pointNumbers mostSegments
-few-numbers c = rw (count (c .before)) (few _ (head-kept sheetFinest _ _ (head (c .before .before)) .0))
 
 -- ---- the points
 
@@ -107,13 +99,13 @@ slice-aggregate-take-values : tie.Need-slice-aggregate-take-values
 slice-aggregate-take-values c = search needs
 
 take-values-requires : tie.Need-take-values-requires
-take-values-requires c κs = (c .before .if3 .left, omega (arith, few-numbers (c .before)))
+take-values-requires c κs = (c .before .if3 .left, omega (arith, few (c .before .before)))
 
 reach-requires : tie.Need-reach-requires
 reach-requires c κs = search needs
 
 array-share-prefix-points : tie.Need-array-share-prefix-points
-array-share-prefix-points c = omega (arith, few-numbers (c .before .before .before .before), c .before .before .take-values .kept)
+array-share-prefix-points c = omega (arith, few (c .before .before .before .before .before), c .before .before .take-values .kept)
 
 slice-aggregate-points-refusal : tie.Need-slice-aggregate-points-refusal
 slice-aggregate-points-refusal c = sym (length-take-le _ _ (array-share-prefix-points (c .before)))
@@ -129,12 +121,12 @@ front l k vs n e h s = rw (s, sets-front l vs (rw e h)) (take-at vs _ n e)
 points : (c : tie.After-take-values)
     → let g = c .before .before in
     let a = g .before .before .before .before .before .before .before .before .args in
-    take (g .before .point-numbers .result) (c .take-values .last .1 .1 .1 .0)
-    ≡ valuesAt (a .sheet .now) (a .at + recordHead) (pointNumbers (u16At (a .sheet .now) (a .at)))
+    take (g .before .record-point-numbers .result) (c .take-values .last .1 .1 .1 .0)
+    ≡ valuesAt (a .sheet .now) (a .at + recordHead) (recordPointNumbers (a .sheet .now) (a .at))
 points c =
     let g = c .before .before in
-    let n = g .before .point-numbers .result in
-    rw (sym (count (g .before))) (front _ _ _ n (values-length _ _ n) (few-numbers g) (c .take-values .ensures))
+    let n = g .before .record-point-numbers .result in
+    rw (sym (g .before .record-point-numbers .ensures)) (front _ _ _ n (values-length _ _ n) (few (g .before)) (c .take-values .ensures))
 
 returns-4 : tie.Need-returns-4
 unfolding bodyRefusal recordAt
@@ -142,9 +134,10 @@ returns-4 c =
     let r = c .before .before in
     let g = r .before .before .before .before in
     let e = g .before .before in
-    let ends = le-leb _ _ (rw (count (g .before)) at (g .if3 .left)) in
+    let ends = le-leb _ _ (rw (g .before .record-point-numbers .ensures) at (g .if3 .left)) in
+    let mark = e .before .before .before .record-mark .ensures in
     c .points-refusal .ensures
-    ∙ ap₂ pointsRefusal (r .reach .ensures) (points (r .before .before))
+    ∙ ap₂ pointsRefusal (r .reach .ensures ∙ ap (λ (m : Marked). sheetReach (m .degree)) mark) (points (r .before .before))
     ∙ sym (refuses-by-points 15 _ _ _ (begins (e .before .before .before .before)) (head e) ends)
 
 pub body-refusal-spec : {M : Type 1} → statement M
@@ -153,12 +146,11 @@ body-refusal-spec =
     (tie.spec
     add-if1
     returns
+    record-mark-requires
     u16-at-requires
-    add-u16-at
-    u16-at-requires-2
     head-refusal-requires
     returns-2
-    point-numbers-requires
+    record-point-numbers-requires
     add-if3
     mul-if3
     add-if3-2

@@ -53,25 +53,22 @@ fits : (c : tie.Else1 Inv-loop μ-loop)
     recordEnd b (l .loop .at) ≤ length b
 fits c = record-fits _ (c .before .before .before .loop .k) _ (kept c)
 
-u16-at-requires : tie.Need-u16-at-requires Inv-loop μ-loop
-u16-at-requires c κs = omega (arith, fits c)
+record-point-numbers-requires : tie.Need-record-point-numbers-requires Inv-loop μ-loop
+record-point-numbers-requires c κs = omega (arith, fits c)
 
-point-numbers-requires : tie.Need-point-numbers-requires Inv-loop μ-loop
-point-numbers-requires c κs = search needs
-
-next : (c : tie.After-point-numbers Inv-loop μ-loop)
-    → let l = c .before .before .before .before .before in
-    l .loop .at + (recordHead + valueSize * c .point-numbers .result) ≡ recordEnd (l .before .before .before .args .sheet .now) (l .loop .at)
-next c = omega (arith, c .point-numbers .ensures, c .before .u16-at .ensures .0)
+next : (c : tie.After-record-point-numbers Inv-loop μ-loop)
+    → let l = c .before .before .before .before in
+    l .loop .at + (recordHead + valueSize * c .record-point-numbers .result) ≡ recordEnd (l .before .before .before .args .sheet .now) (l .loop .at)
+next c = omega (arith, c .record-point-numbers .ensures)
 
 mul-at : tie.Need-mul-at Inv-loop μ-loop
-mul-at c = omega (arith, next c, fits (c .before .before))
+mul-at c = omega (arith, next c, fits (c .before))
 
 add-at : tie.Need-add-at Inv-loop μ-loop
-add-at c = omega (arith, next c, fits (c .before .before))
+add-at c = omega (arith, next c, fits (c .before))
 
 add-at-2 : tie.Need-add-at-2 Inv-loop μ-loop
-add-at-2 c = omega (arith, next c, fits (c .before .before))
+add-at-2 c = omega (arith, next c, fits (c .before))
 
 add-k : tie.Need-add-k Inv-loop μ-loop
 add-k c = omega arith
@@ -89,7 +86,7 @@ turn b n k p q h e f =
 
 loop-again : tie.Need-loop-again Inv-loop μ-loop
 loop-again c =
-    let d = c .before .before in
+    let d = c .before in
     let l = d .before .before in
     let again = turn _ _ _ _ _ (l .loop-test .taken) (kept d) (next c) in
     (omega arith, omega (arith, next c, fits d), again ∙ l .before .loop .inv .2)
@@ -110,8 +107,7 @@ records-refusal-spec =
     loop-holds
     record-refusal-requires
     returns
-    u16-at-requires
-    point-numbers-requires
+    record-point-numbers-requires
     mul-at
     add-at
     add-at-2

@@ -1,17 +1,20 @@
 -- Each return is one line of the table `pathRules`, by the tests that led there.
-use mathlib.Core.Path.{_≡_, sym, ap₂, _∙_}
+use mathlib.Core.Path.{_≡_, sym, ap, ap₂, _∙_}
 use mathlib.Core.Bool.{true}
 use mathlib.Core.List.{List}
-use Prim.Native.Nat.{ℕ, _+_, _-_}
+use Prim.Native.Nat.{ℕ, _+_, _-_, _≤_}
 use native.Mathlib.Omega.{arith}
 use borrow.Author.Needs.{needs}
 use borrow.Author.Tests.{le-leb, lt-leb}
 use lib.Dec.{leb}
 use lib.IntN.{ℤ}
 use lib.ListN.{length, take, drop}
-use Rattle.rules.specs.Rules.{sheetFinest, pointNumbers, headRefusal, pointsRefusal}
-use Rattle.sheet.specs.Sheet.{pathHead}
-use Rattle.sheet.specs.NumberList.{numberAt, pathAt, pathEnd}
+use Rattle.rules.specs.declared.Marked.{Marked}
+use Rattle.rules.specs.Rules.{sheetFinest, headRefusal, pointsRefusal}
+use Rattle.rules.proofs.Laws.{few-numbers}
+use Rattle.rules.proofs.Order.{head-kept}
+use Rattle.sheet.specs.Sheet.{pathHead, sheetReach}
+use Rattle.sheet.specs.NumberList.{numberAt, pathMark, pathPointNumbers, pathAt, pathEnd}
 use Rattle.sheet.specs.Writing.{pathRefusal}
 use Rattle.sheet.proofs.PathRules.{refuses-no-head, refuses-by-head, refuses-cut, refuses-by-points}
 use Rattle.writing.proofs.path_refusal.Statement.{statement}
@@ -24,16 +27,13 @@ returns : tie.Need-returns
 unfolding pathRefusal
 returns c = sym (refuses-no-head 17 _ _ _ (lt-leb _ _ (c .if1 .taken)))
 
--- ---- the segments and the level
+-- ---- the segments and the mark
+
+path-mark-requires : tie.Need-path-mark-requires
+path-mark-requires c κs = search needs
 
 number-at-requires : tie.Need-number-at-requires
 number-at-requires c κs = search needs
-
-add-number-at : tie.Need-add-number-at
-add-number-at c = search needs
-
-number-at-requires-2 : tie.Need-number-at-requires-2
-number-at-requires-2 c κs = search needs
 
 head-refusal-requires : tie.Need-head-refusal-requires
 head-refusal-requires c κs = search needs
@@ -52,8 +52,10 @@ from-head c = c .before .before .before
 
 head-asked : (c : tie.After-head-refusal)
     → let d = from-head c in
-    c .head-refusal .result ≡ headRefusal sheetFinest (numberAt (list d) (index d)) (numberAt (list d) (index d + 1))
-head-asked c = c .head-refusal .ensures ∙ ap₂ (headRefusal sheetFinest) (c .before .before .number-at .ensures) (c .before .number-at2 .ensures)
+    c .head-refusal .result ≡ headRefusal sheetFinest (numberAt (list d) (index d)) (pathMark (list d) (index d) .level)
+head-asked c =
+    c .head-refusal .ensures
+    ∙ ap₂ (λ (S : ℕ) (m : Marked). headRefusal sheetFinest S (m .level)) (c .before .number-at .ensures) (c .before .before .path-mark .ensures)
 
 returns-2 : tie.Need-returns-2
 unfolding pathRefusal pathAt
@@ -62,7 +64,7 @@ returns-2 c =
     asked ∙ sym (refuses-by-head 17 _ _ _ (begins (from-head (c .before))) (λ z. c .if2 .taken (asked ∙ z)))
 
 head : (c : tie.Else2)
-    → let d = from-head (c .before) in headRefusal sheetFinest (numberAt (list d) (index d)) (numberAt (list d) (index d + 1)) ≡ 0
+    → let d = from-head (c .before) in headRefusal sheetFinest (numberAt (list d) (index d)) (pathMark (list d) (index d) .level) ≡ 0
 head c = sym (head-asked (c .before)) ∙ c .if2 .left
 
 -- ---- where the path ends
@@ -70,18 +72,24 @@ head c = sym (head-asked (c .before)) ∙ c .if2 .left
 add-end : tie.Need-add-end
 add-end c = search needs
 
-point-numbers-requires : tie.Need-point-numbers-requires
-point-numbers-requires c κs = search needs
+path-point-numbers-requires : tie.Need-path-point-numbers-requires
+path-point-numbers-requires c κs = search needs
 
-add-end-2 : tie.Need-add-end-2
-add-end-2 c = search needs
-
-abbrev from-end : tie.After-point-numbers → tie.Else1
+abbrev from-end : tie.After-path-point-numbers → tie.Else1
 from-end c = from-head (c .before .before)
 
-end : (c : tie.After-point-numbers)
-    → let d = from-end c in index d + pathHead + c .point-numbers .result ≡ pathEnd (list d) (index d)
-end c = omega (arith, c .point-numbers .ensures, c .before .before .before .before .number-at .ensures)
+few : (c : tie.After-path-point-numbers) → c .path-point-numbers .result ≤ 579
+few c =
+    let d = from-end c in
+    let D = pathMark (list d) (index d) .degree in
+    rw (c .path-point-numbers .ensures) (few-numbers D _ (head-kept sheetFinest _ _ (head (c .before)) .0))
+
+add-end-2 : tie.Need-add-end-2
+add-end-2 c = omega (arith, few c)
+
+end : (c : tie.After-path-point-numbers)
+    → let d = from-end c in index d + pathHead + c .path-point-numbers .result ≡ pathEnd (list d) (index d)
+end c = omega (arith, c .path-point-numbers .ensures)
 
 returns-3 : tie.Need-returns-3
 unfolding pathRefusal pathAt
@@ -120,9 +128,10 @@ returns-4 c =
     let e = r .before .before in
     let d = from-end e in
     let whole = le-leb (pathEnd (list d) (index d)) (length (list d)) (omega (arith, end e, r .before .if3 .left)) in
-    let n : index d + pathHead + e .point-numbers .result - (index d + pathHead) ≡ pointNumbers (numberAt (list d) (index d)) = omega (arith, end e) in
+    let n : index d + pathHead + e .path-point-numbers .result - (index d + pathHead) ≡ pathPointNumbers (list d) (index d) = omega (arith, end e) in
+    let W = r .reach .ensures ∙ ap (λ (m : Marked). sheetReach (m .degree)) (e .before .before .before .before .path-mark .ensures) in
     c .points-refusal .ensures
-    ∙ ap₂ (λ (W k : ℕ). pointsRefusal W (take k (drop (index d + pathHead) (list d)))) (r .reach .ensures) n
+    ∙ ap₂ (λ (W k : ℕ). pointsRefusal W (take k (drop (index d + pathHead) (list d)))) W n
     ∙ sym (refuses-by-points 17 _ _ (pathAt (list d) (index d)) (begins d) (head (e .before)) whole)
 
 pub path-refusal-spec : {M : Type 1} → statement M
@@ -131,13 +140,12 @@ path-refusal-spec =
     (tie.spec
     add-if1
     returns
+    path-mark-requires
     number-at-requires
-    add-number-at
-    number-at-requires-2
     head-refusal-requires
     returns-2
     add-end
-    point-numbers-requires
+    path-point-numbers-requires
     add-end-2
     returns-3
     reach-requires

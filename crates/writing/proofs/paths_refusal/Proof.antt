@@ -36,23 +36,20 @@ accepted c = sym (c .before .path-refusal .ensures) ∙ c .if1 .left
 fits : (c : tie.Else1 Inv-loop μ-loop) → let l = c .before .before .before in pathEnd (l .before .args .numbers .now) (l .loop .at) ≤ length (l .before .args .numbers .now)
 fits c = let l = c .before .before .before in path-fits (l .before .args .numbers .now) (l .loop .at) (accepted c)
 
-number-at-requires : tie.Need-number-at-requires Inv-loop μ-loop
-number-at-requires c κs = omega (arith, fits c)
-
-point-numbers-requires : tie.Need-point-numbers-requires Inv-loop μ-loop
-point-numbers-requires c κs = tt
+path-point-numbers-requires : tie.Need-path-point-numbers-requires Inv-loop μ-loop
+path-point-numbers-requires c κs = omega (arith, fits c)
 
 -- where the path ends
-end : (c : tie.After-point-numbers Inv-loop μ-loop)
-    → let l = c .before .before .before .before .before in
-    l .loop .at + (pathHead + c .point-numbers .result) ≡ pathEnd (l .before .args .numbers .now) (l .loop .at)
-end c = omega (arith, c .point-numbers .ensures, c .before .number-at .ensures)
+end : (c : tie.After-path-point-numbers Inv-loop μ-loop)
+    → let l = c .before .before .before .before in
+    l .loop .at + (pathHead + c .path-point-numbers .result) ≡ pathEnd (l .before .args .numbers .now) (l .loop .at)
+end c = omega (arith, c .path-point-numbers .ensures)
 
 add-at : tie.Need-add-at Inv-loop μ-loop
-add-at c = omega (arith, end c, fits (c .before .before))
+add-at c = omega (arith, end c, fits (c .before))
 
 add-at-2 : tie.Need-add-at-2 Inv-loop μ-loop
-add-at-2 c = omega (arith, end c, fits (c .before .before))
+add-at-2 c = omega (arith, end c, fits (c .before))
 
 sub-left : tie.Need-sub-left Inv-loop μ-loop
 sub-left c = omega arith
@@ -62,7 +59,7 @@ loop-less c = omega arith
 
 loop-again : tie.Need-loop-again Inv-loop μ-loop
 loop-again c =
-    let d = c .before .before in
+    let d = c .before in
     let i = d .before .before in
     let l = i .before in
     let more = paths-more (l .before .args .numbers .now) (l .loop .left) (l .loop .at) (i .loop-test .taken) (accepted d) in
@@ -87,8 +84,7 @@ paths-refusal-spec =
     loop-holds
     path-refusal-requires
     returns
-    number-at-requires
-    point-numbers-requires
+    path-point-numbers-requires
     add-at
     add-at-2
     sub-left

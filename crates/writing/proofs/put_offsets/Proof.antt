@@ -1,5 +1,5 @@
 -- Each turn stores the place of one path's record: the sheet with all that is to come is that of the loop's start.
-use mathlib.Core.Path.{_≡_, refl, ap, _∙_}
+use mathlib.Core.Path.{_≡_, refl}
 use mathlib.Core.List.{List, [], _++_}
 use Prim.Native.Nat.{ℕ, zero, suc, _+_, _-_, _*_, _≤_, _<_}
 use native.Mathlib.Omega.{arith}
@@ -8,10 +8,9 @@ use lib.IntN.{ℤ}
 use lib.ListN.{length}
 use lib.Seq.{sets}
 use Rattle.numbers.proofs.Buffers.{Ahead, here, then, stored, stored-all}
-use Rattle.rules.specs.Rules.{pointNumbers}
 use Rattle.sheet.specs.Bytes.{valueSize, le32}
 use Rattle.sheet.specs.Sheet.{mostBytes, offsetSize, pathHead, recordHead, offsets}
-use Rattle.sheet.specs.NumberList.{numberAt, pathAt, pathEnd, pathsAt}
+use Rattle.sheet.specs.NumberList.{pathPointNumbers, pathAt, pathEnd, pathsAt}
 use Rattle.sheet.specs.Writing.{pathRefusal, pathsRefusal}
 use Rattle.sheet.proofs.Sheets.{length-record}
 use Rattle.sheet.proofs.Writing.{paths-kept, path-fits, path-points}
@@ -56,24 +55,17 @@ cast-put-u32 c = omega (arith, inside (c .before))
 put-u32-requires : tie.Need-put-u32-requires Inv-loop μ-loop
 put-u32-requires c κs = omega arith
 
-number-at-requires : tie.Need-number-at-requires Inv-loop μ-loop
-number-at-requires c κs = omega (arith, inside (c .before .before .before .before))
+path-point-numbers-requires : tie.Need-path-point-numbers-requires Inv-loop μ-loop
+path-point-numbers-requires c κs = omega (arith, inside (c .before .before .before .before))
 
-point-numbers-requires : tie.Need-point-numbers-requires Inv-loop μ-loop
-point-numbers-requires c κs = search needs
+-- ---- its end
 
--- ---- the numbers of its points, and its end
+abbrev turn-of : tie.After-path-point-numbers Inv-loop μ-loop → tie.In-loop Inv-loop μ-loop
+turn-of c = c .before .before .before .before .before
 
-abbrev turn-of : tie.After-point-numbers Inv-loop μ-loop → tie.In-loop Inv-loop μ-loop
-turn-of c = c .before .before .before .before .before .before
-
-counted : (c : tie.After-point-numbers Inv-loop μ-loop)
-    → c .point-numbers .result ≡ pointNumbers (numberAt (list (turn-of c)) (index (turn-of c)))
-counted c = c .point-numbers .ensures ∙ ap pointNumbers (c .before .number-at .ensures)
-
-end : (c : tie.After-point-numbers Inv-loop μ-loop)
-    → index (turn-of c) + (pathHead + c .point-numbers .result) ≡ pathEnd (list (turn-of c)) (index (turn-of c))
-end c = omega (arith, counted c)
+end : (c : tie.After-path-point-numbers Inv-loop μ-loop)
+    → index (turn-of c) + (pathHead + c .path-point-numbers .result) ≡ pathEnd (list (turn-of c)) (index (turn-of c))
+end c = omega (arith, c .path-point-numbers .ensures)
 
 mul-place : tie.Need-mul-place Inv-loop μ-loop
 mul-place c = omega (arith, end c, inside (turn-of c))
@@ -102,7 +94,7 @@ loop-less c = omega arith
 -- the next path's offset, and those after it
 offsets-more : (l : List ℤ) (place n i : ℕ) → 0 < n → pathRefusal l i ≡ 0
     → offsets place (pathsAt l n i)
-    ≡ le32 place ++ offsets (place + (recordHead + valueSize * pointNumbers (numberAt l i))) (pathsAt l (n - 1) (pathEnd l i))
+    ≡ le32 place ++ offsets (place + (recordHead + valueSize * pathPointNumbers l i)) (pathsAt l (n - 1) (pathEnd l i))
 unfolding pathsAt offsets
 offsets-more l place zero i h e = absurd (omega arith)
 offsets-more l place (suc n) i h e =
@@ -115,7 +107,7 @@ offsets-end l place n i z = rw z
 
 -- the bytes stored are the next to come
 turn : {sheet₀ sheet after : List ℕ} {to₀ to : ℕ} {all : List ℕ} (numbers : List ℤ) (place left at n : ℕ) → 0 < left
-    → pathRefusal numbers at ≡ 0 → n ≡ pointNumbers (numberAt numbers at) → after ≡ sets sheet to (le32 place)
+    → pathRefusal numbers at ≡ 0 → n ≡ pathPointNumbers numbers at → after ≡ sets sheet to (le32 place)
     → Ahead sheet to (offsets place (pathsAt numbers left at)) sheet₀ to₀ all
     → Ahead after (to + offsetSize) (offsets (place + (recordHead + valueSize * n)) (pathsAt numbers (left - 1) (at + (pathHead + n)))) sheet₀ to₀ all
 turn {sheet = sheet} {to = to} numbers place left at n some right points bytes ahead =
@@ -124,9 +116,9 @@ turn {sheet = sheet} {to = to} numbers place left at n some right points bytes a
 
 loop-again : tie.Need-loop-again Inv-loop μ-loop
 loop-again c =
-    let put = c .before .before .before .before in
+    let put = c .before .before .before in
     let l = turn-of c in
-    let ahead = turn (list l) _ _ _ _ (l .loop-test .taken) (kept l .0) (counted c) (put .put-u32 .ensures) (l .before .loop .inv .4) in
+    let ahead = turn (list l) _ _ _ _ (l .loop-test .taken) (kept l .0) (c .path-point-numbers .ensures) (put .put-u32 .ensures) (l .before .loop .inv .4) in
     (omega arith, omega arith, omega arith, rw (end c) (kept l .1), ahead)
 
 same-length : tie.Need-same-length Inv-loop μ-loop
@@ -148,8 +140,7 @@ put-offsets-spec =
     loop-holds
     cast-put-u32
     put-u32-requires
-    number-at-requires
-    point-numbers-requires
+    path-point-numbers-requires
     mul-place
     add-place
     add-place-2
