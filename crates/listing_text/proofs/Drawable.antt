@@ -18,7 +18,7 @@ use Rattle.sheet.proofs.RoundTrips.{read-accepted, write-accepted}
 -- measured without a refusal; drawing then refuses only by 9, for the room (`refuses-9` of path)
 abbrev pub Drawable : Sheet → Target → Type 0
 Drawable s t =
-    pathRefusal (path (t .points) (record { segments = t .segments; finest = 11; level = t .level }) (record { upper = s .upper; lower = s .lower })) ≡ 0
+    pathRefusal (path (t .points) (record { degree = t .degree; segments = t .segments; finest = 11; level = t .level }) (record { upper = s .upper; lower = s .lower })) ≡ 0
 
 pub path-drawable : (s : Sheet) (t : Target) → areLimits (s .upper) (s .lower) ≡ true → RightPath t → Drawable s t
 unfolding pathRefusal pointsRefusal isFinest

@@ -1,10 +1,10 @@
--- Two sheets and their texts. Document 01's path A, with widths 0, fixes the words of the lines, the order of the numbers, and the places of the
--- entries; the second what it leaves open: the limits, start levels and numbers of several paths, widths, a join, and numbers below 0. The line of a refused sheet is in
--- proofs/Refused.
+-- Three sheets and their texts. Document 01's path A, with widths 0, fixes the words of the lines, the order of the numbers, and the places of the
+-- entries; the second what it leaves open: the limits, start levels and numbers of several paths, widths, a join, and numbers below 0; the third
+-- that a quadratic path is listed as one. The line of a refused sheet is in proofs/Refused.
 use mathlib.Core.Path.{_≡_, refl}
 use mathlib.Core.List.{List, [], _∷_}
 use Prim.Native.Nat.{ℕ}
-use Rattle.rules.specs.Rules.{isFinest, reach, isCoordinate, areNeighbours, isLevel, areLimits, isSegments, isSize, arePoints, areBeside, areChained, headRefusal, pointsRefusal}
+use Rattle.rules.specs.Rules.{isFinest, reach, isCoordinate, areNeighbours, isLevel, areLimits, isSegments, isSize, arePoints, areBeside, areChained, headRefusal, pointsRefusal, marked}
 use Rattle.coordinate.specs.Curve.{curve}
 use Rattle.coordinate.specs.Registers.{startRegisters, turn}
 use Rattle.coordinate.specs.Increment.{increment, doubledIncrement}
@@ -97,16 +97,51 @@ secondText =
     ∷ 50 ∷ 48 ∷ 52 ∷ 56 ∷ 32 ∷ 48 ∷ 32 ∷ 50 ∷ 32 ∷ 49 ∷ 48 ∷ 10
     ∷ []
 
-pub listings : (listing documentBytes ≡ documentText) × (listing secondBytes ≡ secondText)
+-- A quadratic path of two segments from level 0, x at 0, 1, 2 and then at 2, 4, 6, y and width 0 throughout: its text is reckoned by hand. In hex: 01000000
+-- 00000100 00800000, the count and the limits; 10000000, the offset; 02000001, two segments and the mark 256; then the five points.
+abbrev pub outlineBytes : List ℕ
+outlineBytes =
+    1 ∷ 0 ∷ 0 ∷ 0 ∷ 0 ∷ 0 ∷ 1 ∷ 0 ∷ 0 ∷ 128 ∷ 0 ∷ 0
+    ∷ 16 ∷ 0 ∷ 0 ∷ 0
+    ∷ 2 ∷ 0 ∷ 0 ∷ 1
+    ∷ 0 ∷ 0 ∷ 0 ∷ 0 ∷ 0 ∷ 0 ∷ 1 ∷ 0 ∷ 0 ∷ 0 ∷ 0 ∷ 0 ∷ 2 ∷ 0 ∷ 0 ∷ 0 ∷ 0 ∷ 0 ∷ 4 ∷ 0 ∷ 0 ∷ 0 ∷ 0 ∷ 0 ∷ 6 ∷ 0 ∷ 0 ∷ 0 ∷ 0 ∷ 0
+    ∷ []
+
+-- paths 1
+-- path 0 points 7 length 6000
+-- 0 0 0 0
+-- 1024 1 0 0
+-- 2048 2 0 0
+-- 2560 3 0 0
+-- 3072 4 0 0
+-- 3584 5 0 0
+-- 4096 6 0 0
+abbrev pub outlineText : List ℕ
+outlineText =
+    112 ∷ 97 ∷ 116 ∷ 104 ∷ 115 ∷ 32 ∷ 49 ∷ 10
+    ∷ 112 ∷ 97 ∷ 116 ∷ 104 ∷ 32 ∷ 48 ∷ 32 ∷ 112 ∷ 111 ∷ 105 ∷ 110 ∷ 116 ∷ 115 ∷ 32 ∷ 55 ∷ 32 ∷ 108 ∷ 101 ∷ 110 ∷ 103 ∷ 116 ∷ 104 ∷ 32 ∷ 54 ∷ 48 ∷ 48 ∷ 48 ∷ 10
+    ∷ 48 ∷ 32 ∷ 48 ∷ 32 ∷ 48 ∷ 32 ∷ 48 ∷ 10
+    ∷ 49 ∷ 48 ∷ 50 ∷ 52 ∷ 32 ∷ 49 ∷ 32 ∷ 48 ∷ 32 ∷ 48 ∷ 10
+    ∷ 50 ∷ 48 ∷ 52 ∷ 56 ∷ 32 ∷ 50 ∷ 32 ∷ 48 ∷ 32 ∷ 48 ∷ 10
+    ∷ 50 ∷ 53 ∷ 54 ∷ 48 ∷ 32 ∷ 51 ∷ 32 ∷ 48 ∷ 32 ∷ 48 ∷ 10
+    ∷ 51 ∷ 48 ∷ 55 ∷ 50 ∷ 32 ∷ 52 ∷ 32 ∷ 48 ∷ 32 ∷ 48 ∷ 10
+    ∷ 51 ∷ 53 ∷ 56 ∷ 52 ∷ 32 ∷ 53 ∷ 32 ∷ 48 ∷ 32 ∷ 48 ∷ 10
+    ∷ 52 ∷ 48 ∷ 57 ∷ 54 ∷ 32 ∷ 54 ∷ 32 ∷ 48 ∷ 32 ∷ 48 ∷ 10
+    ∷ []
+
+pub listings : (listing documentBytes ≡ documentText) × (listing secondBytes ≡ secondText) × (listing outlineBytes ≡ outlineText)
 unfolding listing sheetText pathsText pathText pathsLine pathLine entryLine entryLines named followed decimal decimalIn numeral sheetAt recordsAt
     recordAt valuesAt sheetRefusal recordsRefusal recordRefusal bodyRefusal isOffset pathRules headRefusal pointsRefusal measured
     pathRefusal isSegments isSize isFinest reach arePoints areChained areBeside isCoordinate areNeighbours isLevel areLimits entries following rest shownBy
     entry turns turnsIn choose wantsHalve wantsDouble increment doubledIncrement isAligned turned turn pixel first control pointAt
-    startRegisters curve moveLength lengthFrom lengthOf
-listings = (refl, refl)
+    startRegisters curve moveLength lengthFrom lengthOf marked
+listings = (refl, refl, refl)
 
 pub document-listing : listing documentBytes ≡ documentText
 document-listing = listings .0
 
 pub second-listing : listing secondBytes ≡ secondText
 second-listing = listings .1
+
+pub outline-listing : listing outlineBytes ≡ outlineText
+outline-listing = listings .2

@@ -23,7 +23,7 @@ paths-append s i (t ∷ ts) us =
 pub path-listed : (b : List ℕ) → sheetRefusal b ≡ 0 → let s = sheetAt b in
     (before : List Target) (t : Target) (after : List Target) → s .paths ≡ before ++ t ∷ after
     → listing b ≡ pathsLine (length before + 1 + length after) ++ (pathsText s 0 before
-    ++ (pathText (length before) (record { points = t .points; segments = t .segments; finest = 11; level = t .level; upper = s .upper; lower = s .lower })
+    ++ (pathText (length before) (record { degree = t .degree; points = t .points; segments = t .segments; finest = 11; level = t .level; upper = s .upper; lower = s .lower })
     ++ pathsText s (length before + 1) after))
 unfolding listing sheetText pathsText
 path-listed b e before t after f =

@@ -16,7 +16,7 @@ use Rattle.listing_text.specs.Lines.{pathsLine, pathLine, entryLines, re
 
 -- a path of a sheet: its shape, with the finest level of every sheet's paths, and the sheet's limits
 abbrev pub shapeOf : Target → Shape
-shapeOf t = record { segments = t .segments; finest = sheetFinest; level = t .level }
+shapeOf t = record { degree = t .degree; segments = t .segments; finest = sheetFinest; level = t .level }
 
 abbrev pub limitsOf : Sheet → Limits
 limitsOf s = record { upper = s .upper; lower = s .lower }

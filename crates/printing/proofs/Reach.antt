@@ -11,13 +11,13 @@ use lib.ListN.{length, take, drop, length-drop, drop-of-length-le}
 use lib.IntN.{ℤ}
 use lib.Seq.{take-all, take-nil}
 use Rattle.rules.specs.declared.Limits.{Limits}
-use Rattle.rules.specs.Rules.{degree, coordinates, pointNumbers}
+use Rattle.rules.specs.Rules.{degree, coordinates}
 use Rattle.path.specs.declared.Shape.{Shape}
 use Rattle.path.specs.Path.{path}
 use Rattle.path.specs.Joined.{alone}
 use Rattle.path.proofs.Turns.{by-test}
 use Rattle.sheet.specs.Sheet.{pathHead}
-use Rattle.sheet.specs.NumberList.{numberAt, pathAt, pathEnd, sheetOf}
+use Rattle.sheet.specs.NumberList.{pathPointNumbers, pathAt, pathEnd, sheetOf}
 use Rattle.listing_text.specs.Listing.{shapeOf, limitsOf}
 use Rattle.listing_text.specs.Pieces.{pathIn}
 
@@ -65,20 +65,22 @@ module _ {A : Type 0} (l : List A) (a n : ℕ) where
 
 -- segment k of a path
 pub segment-part : (points : List ℤ) (shape : Shape) (limits : Limits) (k from to : ℕ)
-    → from ≡ min (coordinates * (degree * k)) (length points) → to ≡ min (from + coordinates * (degree + 1)) (length points)
-    → path (take (to - from) (drop from points)) (record { segments = 1; finest = shape .finest; level = shape .level }) limits
+    → let D = degree (shape .degree) in
+    from ≡ min (coordinates * (D * k)) (length points) → to ≡ min (from + coordinates * (D + 1)) (length points)
+    → path (take (to - from) (drop from points)) (record { degree = shape .degree; segments = 1; finest = shape .finest; level = shape .level }) limits
     ≡ alone (path points shape limits) k
 unfolding alone
 segment-part points shape limits k from to f t =
-    let start = coordinates * (degree * k) in
-    let size = coordinates * (degree + 1) in
+    let D = degree (shape .degree) in
+    let start = coordinates * (D * k) in
+    let size = coordinates * (D + 1) in
     rw (t, f, cut-again start size (length points), part-reached points start size)
 
 -- the path whose numbers start at `at`, by its points, its shape and the limits as they are read
 module _ (l : List ℤ) (at : ℕ) {from to : ℕ} (f : from ≡ min (at + pathHead) (length l)) (t : to ≡ min (pathEnd l at) (length l)) where
   points-read : take (to - from) (drop from l) ≡ pathAt l at .points
   unfolding pathAt
-  points-read = rw (t, f, part-reached l (at + pathHead) (pointNumbers (numberAt l at)))
+  points-read = rw (t, f, part-reached l (at + pathHead) (pathPointNumbers l at))
 
   pub path-by-numbers : {shape : Shape} {limits : Limits} → shape ≡ shapeOf (pathAt l at) → limits ≡ limitsOf (sheetOf l)
       → path (take (to - from) (drop from l)) shape limits ≡ pathIn l at

@@ -7,7 +7,7 @@ ghost use Rattle.path.specs.Path.{path};
 ghost use Rattle.path.specs.Joined.{alone};
 ghost use Rattle.path.specs.Answer.{drawn, written};
 ghost use Rattle.sheet.specs.Sheet.{mostNumbers, pathHead};
-ghost use Rattle.sheet.specs.NumberList.{numberAt, pathAt, pathEnd, sheetOf};
+ghost use Rattle.sheet.specs.NumberList.{numberAt, pathMark, pathAt, pathEnd, sheetOf};
 ghost use Rattle.text.specs.Reached.{reached};
 ghost use Rattle.listing_text.specs.Listing.{shapeOf, limitsOf};
 ghost use Rattle.listing_text.specs.Pieces.{segmentAt, headingAt, pieceText, nextPlace};
@@ -18,8 +18,8 @@ use listing_text::Place;
 use path::Drawn;
 use path::Shape;
 use rules::COORDINATES;
-use rules::DEGREE;
 use rules::Limits;
+use rules::Marked;
 use rules::SHEET_FINEST;
 use sheet::PATH_HEAD;
 
@@ -90,9 +90,12 @@ fn draw_alone(points: &[i32], shape: Shape, limits: Limits, k: u32, list: &mut [
     ensures { λ r. ⌜ r ≡ drawn (alone (path (now (points .entry)) shape limits) k) (length (now (list .entry))) ⌝ }
     ensures { λ _. ⌜ now (list .exit) ≡ written (alone (path (now (points .entry)) shape limits) k) (now (list .entry)) ⌝ }
 {
-    let from = least(COORDINATES * (DEGREE * k as usize), points.len());
-    let to = least(from + COORDINATES * (DEGREE + 1), points.len());
+    let degree = shape.degree;
+    let each = degree.number() as usize;
+    let from = least(COORDINATES * (each * k as usize), points.len());
+    let to = least(from + COORDINATES * (each + 1), points.len());
     let one = Shape {
+        degree: degree,
         segments: 1,
         finest: shape.finest,
         level: shape.level,
@@ -126,7 +129,7 @@ fn next_place(numbers: &[i32], place: Place) -> Place
 
 // ---- the numbers of a path
 
-// A count, a limit, segments or a level: number i of a list, 0 past its end.
+// A count, a limit, segments or a mark: number i of a list, 0 past its end.
 pub(crate) fn number_at(numbers: &[i32], i: usize) -> u32
     ensures { λ r. ⌜ r ≡ numberAt (now (numbers .entry)) i ⌝ }
 {
@@ -141,11 +144,22 @@ fn shape_at(numbers: &[i32], at: usize) -> Shape
     requires { ⌜ (at ≤ length (now numbers)) × (length (now numbers) ≤ mostNumbers) ⌝ }
     ensures { λ r. ⌜ r ≡ shapeOf (pathAt (now (numbers .entry)) at) ⌝ }
 {
+    let marked = mark_at(numbers, at);
+    let degree = marked.degree;
     Shape {
+        degree: degree,
         segments: number_at(numbers, at),
         finest: SHEET_FINEST,
-        level: number_at(numbers, at + 1),
+        level: marked.level,
     }
+}
+
+// The degree and the start level of the path at `at`.
+fn mark_at(numbers: &[i32], at: usize) -> Marked
+    requires { ⌜ (at ≤ length (now numbers)) × (length (now numbers) ≤ mostNumbers) ⌝ }
+    ensures { λ r. ⌜ r ≡ pathMark (now (numbers .entry)) at ⌝ }
+{
+    Marked::by(number_at(numbers, at + 1))
 }
 
 fn limits_of(numbers: &[i32]) -> Limits
@@ -169,10 +183,9 @@ fn points_end(numbers: &[i32], at: usize) -> usize
     requires { ⌜ (at ≤ length (now numbers)) × (length (now numbers) ≤ mostNumbers) ⌝ }
     ensures { λ r. ⌜ r ≡ min (pathEnd (now (numbers .entry)) at) (length (now (numbers .entry))) ⌝ }
 {
-    least(
-        at + PATH_HEAD + rules::point_numbers(number_at(numbers, at)),
-        numbers.len(),
-    )
+    let degree = mark_at(numbers, at).degree;
+    let size = rules::point_numbers(degree, number_at(numbers, at));
+    least(at + PATH_HEAD + size, numbers.len())
 }
 
 fn least(a: usize, b: usize) -> usize

@@ -1,11 +1,13 @@
 // The answers to requests: each is false where the arguments are not so many as the code takes.
 ghost use Prim.Native.Nat.{_≤_};
 ghost use lib.ListN.{length};
-use crate::input::control_of;
+use crate::input::cubic_of;
 use crate::input::drawing_of;
 use crate::input::fill_bytes;
 use crate::input::fill_numbers;
+use crate::input::is_degree;
 use crate::input::limits_at;
+use crate::input::quadratic_of;
 use crate::input::shape_of;
 use crate::input::take_bytes;
 use crate::input::unsigned_at;
@@ -20,15 +22,16 @@ use crate::output::put_written;
 use engine::Drawing;
 use engine::Moved;
 use rules::COORDINATES;
-use rules::DEGREE;
 
-// The numbers of a segment's control points, and of a drawing.
-const CONTROLS: usize = COORDINATES * (DEGREE + 1);
+// The numbers of the control points of a segment of each degree, and of a drawing.
+const QUADRATIC: usize = COORDINATES * 3;
+
+const CUBIC: usize = COORDINATES * 4;
 
 const DRAWING: usize = 3 + 4 * COORDINATES;
 
 // And of a path's shape, and of limits.
-const SHAPE: usize = 3;
+const SHAPE: usize = 4;
 
 const LIMITS: usize = 2;
 
@@ -53,20 +56,34 @@ pub(crate) fn answer(
         8 => answer_measure(words, text),
         12 => answer_measure_standard(words, text),
         13 => answer_next_standard(words, text),
+        14 => answer_start_quadratic(words, text),
         _ => false,
     }
 }
 
 fn answer_start(words: &[i32], text: &mut [u8]) -> bool {
-    if words.len() != CONTROLS + 2 {
+    if words.len() != CUBIC + 2 {
         return false;
     }
-    let x = control_of(words, 0);
-    let y = control_of(words, 1);
-    let width = control_of(words, 2);
-    let finest = unsigned_at(words, CONTROLS);
-    let level = unsigned_at(words, CONTROLS + 1);
+    let x = cubic_of(words, 0);
+    let y = cubic_of(words, 1);
+    let width = cubic_of(words, 2);
+    let finest = unsigned_at(words, CUBIC);
+    let level = unsigned_at(words, CUBIC + 1);
     put_moved(text, Drawing::start(x, y, width, finest, level));
+    true
+}
+
+fn answer_start_quadratic(words: &[i32], text: &mut [u8]) -> bool {
+    if words.len() != QUADRATIC + 2 {
+        return false;
+    }
+    let x = quadratic_of(words, 0);
+    let y = quadratic_of(words, 1);
+    let width = quadratic_of(words, 2);
+    let finest = unsigned_at(words, QUADRATIC);
+    let level = unsigned_at(words, QUADRATIC + 1);
+    put_moved(text, Drawing::start_quadratic(x, y, width, finest, level));
     true
 }
 
@@ -117,6 +134,9 @@ fn answer_measure(words: &[i32], text: &mut [u8]) -> bool {
     if words.len() < SHAPE + LIMITS {
         return false;
     }
+    if !is_degree(unsigned_at(words, 0)) {
+        return false;
+    }
     let shape = shape_of(words);
     let limits = limits_at(words, SHAPE);
     let at = put_drawn(
@@ -129,6 +149,9 @@ fn answer_measure(words: &[i32], text: &mut [u8]) -> bool {
 
 fn answer_measure_standard(words: &[i32], text: &mut [u8]) -> bool {
     if words.len() < SHAPE {
+        return false;
+    }
+    if !is_degree(unsigned_at(words, 0)) {
         return false;
     }
     let shape = shape_of(words);
@@ -169,6 +192,9 @@ fn answer_draw(words: &[i32], list: &mut [i32], text: &mut [u8]) -> bool {
     if words.len() < SHAPE + LIMITS {
         return false;
     }
+    if !is_degree(unsigned_at(words, 0)) {
+        return false;
+    }
     let shape = shape_of(words);
     let limits = limits_at(words, SHAPE);
     fill_numbers(list);
@@ -182,6 +208,9 @@ fn answer_draw(words: &[i32], list: &mut [i32], text: &mut [u8]) -> bool {
 
 fn answer_draw_standard(words: &[i32], list: &mut [i32], text: &mut [u8]) -> bool {
     if words.len() < SHAPE {
+        return false;
+    }
+    if !is_degree(unsigned_at(words, 0)) {
         return false;
     }
     let shape = shape_of(words);

@@ -2,14 +2,17 @@
 ghost use mathlib.Core.Path.{_≡_};
 ghost use Prim.Native.Nat.{_+_, _*_, _%_, _≤_, _<_};
 ghost use lib.ListN.{length};
-ghost use Rattle.rules.specs.Rules.{degree, coordinates};
-ghost use Rattle.probe.specs.Words.{wordAt, unsignedAt, controlAt, registersAt, drawingIn, shapeIn, limitsAt};
-use coordinate::Control;
+ghost use Rattle.rules.specs.declared.Degree.the-variants as degree;
+ghost use Rattle.rules.specs.Rules.{coordinates};
+ghost use Rattle.probe.specs.Words.{wordAt, unsignedAt, controlAt, registersAt, drawingIn, isDegree, degreeOf, shapeIn, limitsAt};
+use coordinate::Cubic;
+use coordinate::Quadratic;
 use coordinate::Registers;
 use engine::Drawing;
 use libc::STDIN_FILENO;
 use path::Shape;
 use rules::COORDINATES;
+use rules::Degree;
 use rules::Limits;
 
 // Fills `words` from standard input, by way of `bytes`; false where the input ends before.
@@ -46,15 +49,26 @@ pub(crate) fn unsigned_at(words: &[i32], at: usize) -> u32
 }
 
 // One coordinate of the control points, which come point by point: x at 0, y at 1, the width at 2.
-pub(crate) fn control_of(words: &[i32], at: usize) -> Control
-    requires { ⌜ at + degree * coordinates < length (now words) ⌝ }
-    ensures { λ r. ⌜ r ≡ controlAt (now (words .entry)) at ⌝ }
+pub(crate) fn cubic_of(words: &[i32], at: usize) -> Cubic
+    requires { ⌜ at + 3 * coordinates < length (now words) ⌝ }
+    ensures { λ r. ⌜ r ≡ controlAt degree.Cubic (now (words .entry)) at ⌝ }
 {
-    Control {
+    Cubic {
         p0: words[at],
         p1: words[at + COORDINATES],
         p2: words[at + 2 * COORDINATES],
         p3: words[at + 3 * COORDINATES],
+    }
+}
+
+pub(crate) fn quadratic_of(words: &[i32], at: usize) -> Quadratic
+    requires { ⌜ at + 2 * coordinates < length (now words) ⌝ }
+    ensures { λ r. ⌜ r ≡ controlAt degree.Quadratic (now (words .entry)) at ⌝ }
+{
+    Quadratic {
+        p0: words[at],
+        p1: words[at + COORDINATES],
+        p2: words[at + 2 * COORDINATES],
     }
 }
 
@@ -85,16 +99,34 @@ fn registers_of(words: &[i32], at: usize) -> Registers
     }
 }
 
-// segments finest level.
+// degree segments finest level.
 pub(crate) fn shape_of(words: &[i32]) -> Shape
-    requires { ⌜ 3 ≤ length (now words) ⌝ }
+    requires { ⌜ 4 ≤ length (now words) ⌝ }
     ensures { λ r. ⌜ r ≡ shapeIn (now (words .entry)) ⌝ }
 {
+    let degree = degree_of(unsigned_at(words, 0));
     Shape {
-        segments: unsigned_at(words, 0),
-        finest: unsigned_at(words, 1),
-        level: unsigned_at(words, 2),
+        degree: degree,
+        segments: unsigned_at(words, 1),
+        finest: unsigned_at(words, 2),
+        level: unsigned_at(words, 3),
     }
+}
+
+// The two numbers that a request may name as a degree.
+pub(crate) fn is_degree(n: u32) -> bool
+    ensures { λ r. ⌜ r ≡ isDegree n ⌝ }
+{
+    (n == 2) | (n == 3)
+}
+
+fn degree_of(n: u32) -> Degree
+    ensures { λ r. ⌜ r ≡ degreeOf n ⌝ }
+{
+    if n == 2 {
+        return Degree::Quadratic;
+    }
+    Degree::Cubic
 }
 
 // upper lower.

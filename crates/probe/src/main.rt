@@ -1,20 +1,22 @@
 // Calls the library's entries on any numbers, for tests. Standard input has requests in signed 32-bit words, the lowest byte first: a code, a
 // count K, and K arguments. Each is answered by a line of decimal numbers, or by "bad request": an unknown code, another K than the code's,
-// K over 16,400, room over 16,384, or a request that the input's end cuts off.
+// K over 16,400, room over 16,384, a DEGREE that is neither 2 nor 3, or a request that the input's end cuts off.
 //
 //     1 start                       COORDINATES of 4 points, finest, level                refusal DRAWING
 //     2 halve, 3 double, 4 step     DRAWING                                               refusal DRAWING
 //     5 next                        DRAWING upper lower                                   refusal operation (0 halve, 1 double, 2 step)
 //     6 shown                       DRAWING                                               x y width
-//     7 draw                        room segments finest level upper lower COORDINATES    refusal points length LIST
-//     8 measure                     segments finest level upper lower COORDINATES         refusal points length
+//     7 draw                        room SHAPE upper lower COORDINATES                    refusal points length LIST
+//     8 measure                     SHAPE upper lower COORDINATES                         refusal points length
 //     9 read                        room BYTES                                            refusal count LIST
 //     10 write                      room NUMBERS                                          refusal count LIST
-//     11 draw_standard              room segments finest level COORDINATES                as 7
-//     12 measure_standard           segments finest level COORDINATES                     as 8
+//     11 draw_standard              room SHAPE COORDINATES                                as 7
+//     12 measure_standard           SHAPE COORDINATES                                     as 8
 //     13 next_standard              DRAWING                                               as 5
+//     14 start_quadratic            COORDINATES of 3 points, finest, level                as 1
 //
-// DRAWING is the fifteen numbers finest level q, then a b c d of x, of y, of the width. COORDINATES come point by point, x y width. BYTES has a
+// DRAWING is the fifteen numbers finest level q, then a b c d of x, of y, of the width. COORDINATES come point by point, x y width. SHAPE is
+// the four numbers DEGREE segments finest level; DEGREE is 2 for a quadratic path, 3 for a cubic one. BYTES has a
 // byte a word, in its low eight bits. LIST is the `room` places that are lent, which hold -7, or 7 for bytes, before the call.
 mod answers;
 mod input;
