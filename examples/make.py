@@ -7,6 +7,9 @@ A path is written as its start and then one row for each segment: two handles
 and the end, each x, y and the width of the lane there. Where a curve goes on
 smoothly, the handle before a join, the join and the handle after it lie on one
 line. y grows downwards, as on a tablet.
+
+An outline of a letter is written as a TrueType font has it: closed contours of
+points that lie on the curve or off it.
 """
 import sys
 from pathlib import Path
@@ -17,13 +20,44 @@ sys.path.insert(0, str(HERE.parent / "tests"))
 import above  # noqa: E402, F401
 import kept  # noqa: E402
 from document_cases import SHEET  # noqa: E402
-from makers import point, sheet  # noqa: E402
+from makers import cubic, point, quadratic, sheet  # noqa: E402
 from model.points import flat  # noqa: E402
 
 
 def path(level, start, *segments):
     """The model's path: its level and all its points in order."""
-    return level, [point(*values) for values in [start, *flat(segments)]]
+    return cubic(level, [point(*values)
+                         for values in [start, *flat(segments)]])
+
+
+# Contours: an edge from one point on the curve to the next is straight, and
+# between two points off the curve lies one on it. Either way what is left out
+# is the point halfway.
+
+def on(x, y):
+    return True, x, y
+
+
+def off(x, y):
+    return False, x, y
+
+
+def halfway(here, there):
+    total = here + there
+    assert total % 2 == 0, f"halfway from {here} to {there} is no whole number"
+    return total // 2
+
+
+def contour(level, width, *corners):
+    """A quadratic path that ends where it starts, with a lane of one width."""
+    points = []
+    for (kind, *here), (next_kind, *there) in zip(corners,
+                                                  corners[1:] + corners[:1]):
+        points.append(here)
+        if kind == next_kind:
+            points.append(map(halfway, here, there))
+    return quadratic(level, [point(*place, width)
+                             for place in [*points, points[0]]])
 
 
 # The word "la": the lines of the school's ruled paper are at y 0 (top of the
@@ -73,6 +107,26 @@ SLOW_START = path(
     ((0, 0, 12), (10, 0, 8), (48, 40, 4)),
 )
 
+# A letter e, its top at y 0 and its base line at 72. The outer contour goes
+# round clockwise, and the counter inside it the other way.
+
+E_OUTER = contour(
+    0, 4,
+    on(64, 38), on(14, 38),                         # back along the bar
+    off(14, 50), off(24, 62), on(38, 62),           # down the bowl's inside
+    off(50, 62), on(58, 52), on(62, 56),            # to the open end
+    off(53, 72), on(36, 72),                        # back to the base line
+    off(20, 72), off(0, 52), on(0, 37),             # round to the left
+    off(0, 22), off(20, 0), on(34, 0),              # up to the top
+    off(48, 0), off(64, 22),                        # and down to the bar
+)
+E_COUNTER = contour(
+    0, 4,
+    on(14, 31), on(50, 31),                         # along the bar
+    off(50, 21), off(40, 7), on(33, 7),             # up to the top
+    off(26, 7), off(14, 21),                        # and down to the bar
+)
+
 # Several paths of several segments, each with another start level and a lane
 # of its own: even, wide in one place, none where the eight crosses itself,
 # and one that ends in a point.
@@ -112,6 +166,7 @@ TOO_FAR = path(
 
 SHEETS = {
     "letters.sheet": sheet(L, A),
+    "outline.sheet": sheet(E_OUTER, E_COUNTER),
     "spiral.sheet": sheet(SPIRAL),
     "slow-start.sheet": sheet(SLOW_START),
     "paths.sheet": sheet(WAVE, HEART, EIGHT, CORNERS),

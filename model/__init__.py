@@ -1,6 +1,6 @@
 """A model of the library, to compare its answers with.
 
-Written from documents 01 and 02 (orders 8 and 9) alone: it knows nothing of
+Written from documents 01 and 02 (orders 8 to 10) alone: it knows nothing of
 the library's code, and it follows the documents' words in their order. Numbers
 are Python's whole numbers, which have no end, so nothing here can wrap round
 or be cut.

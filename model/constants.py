@@ -6,7 +6,11 @@ COORDINATES = "x", "y", "width"     # of a point, in their order
 POINT_NUMBERS = len(COORDINATES)
 ENTRY_NUMBERS = 1 + POINT_NUMBERS   # the position, and then the point
 LOWEST, HIGHEST = -16_384, 16_383   # a coordinate, the width too
-FARTHEST = 682                      # between neighbours, at any F
+
+# Curves
+
+QUADRATIC, CUBIC = DEGREES = 2, 3   # points from a join to the next one
+FARTHEST = {QUADRATIC: 1_023, CUBIC: 682}   # between neighbours, at any F
 
 # Drawings
 
@@ -18,7 +22,7 @@ STANDARD_LIMITS = ONE_UNIT, ONE_UNIT // 2
 
 # Paths and sheets
 
-DEGREE = 3                          # points from a join to the next one
 MOST_SEGMENTS = 64
 MOST_PATHS = 1_024
 MOST_BYTES = 32_768
+QUADRATIC_MARK = 256                # added to the level of a quadratic record

@@ -8,7 +8,7 @@ from collections import namedtuple
 from fractions import Fraction
 from math import floor
 
-from model.constants import (COORDINATES, LEAST, MOST, ONE_UNIT,
+from model.constants import (COORDINATES, CUBIC, LEAST, MOST, ONE_UNIT,
                              POINT_NUMBERS)
 from model.points import Point
 from model.rules import (demand, demand_finest, demand_level, demand_limits,
@@ -38,8 +38,7 @@ def step_size(finest, level):
 
 # The exact curve, and a start
 
-def coefficients(p0, p1, p2, p3):
-    """A, B, C and D of one coordinate."""
+def cubic_coefficients(p0, p1, p2, p3):
     C = 3 * (p1 - p0)
     B = 3 * (p2 - 2 * p1 + p0)
     A = p3 - 3 * p2 + 3 * p1 - p0
@@ -47,14 +46,29 @@ def coefficients(p0, p1, p2, p3):
     return A, B, C, D
 
 
+def quadratic_coefficients(p0, p1, p2):
+    C = 2 * (p1 - p0)
+    B = p2 - 2 * p1 + p0
+    A = 0
+    D = p0
+    return A, B, C, D
+
+
+def coefficients(degree, points):
+    """A, B, C and D of one coordinate."""
+    if degree == CUBIC:
+        return cubic_coefficients(*points)
+    return quadratic_coefficients(*points)
+
+
 def whole(value):
     assert value.denominator == 1
     return value.numerator
 
 
-def start_registers(points, level):
+def start_registers(degree, points, level):
     """One coordinate's registers at the start."""
-    A, B, C, D = coefficients(*points)
+    A, B, C, D = coefficients(degree, points)
     delta = Fraction(1, 2**level)
     d = ONE_UNIT * D
     a = whole(ONE_UNIT * 6 * A * delta)
@@ -63,23 +77,23 @@ def start_registers(points, level):
     return a, b, c, d
 
 
-def started(points, finest, level):
+def started(degree, points, finest, level):
     """The drawing of an accepted start."""
-    return Drawing(finest, level, 0, *(start_registers(values, level)
+    return Drawing(finest, level, 0, *(start_registers(degree, values, level)
                                        for values in zip(*points)))
 
 
-def begun(points, finest, level):
+def begun(degree, points, finest, level):
     """24, 1 over all points, 2, 3."""
     demand_finest(finest)
-    demand_points(points, finest)
+    demand_points(points, degree, finest)
     demand_level(level, finest)
-    return started(points, finest, level)
+    return started(degree, points, finest, level)
 
 
-def start(points, finest, level):
+def start(degree, points, finest, level):
     """The refusal and the drawing."""
-    return refusal_or(ZEROS, begun, points, finest, level)
+    return refusal_or(ZEROS, begun, degree, points, finest, level)
 
 
 # The operations: new registers of one coordinate from its old ones

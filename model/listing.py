@@ -1,8 +1,15 @@
 """The model's listing: the text that the listing program prints of a sheet."""
 from model.constants import SHEET_FINEST
-from model.path import length, path_entries
+from model.path import Shape, length, path_entries
+from model.points import segments_of
 from model.rules import refusal_or
 from model.sheet import read_paths
+
+
+def shape_of(path):
+    """The shape of a sheet's path."""
+    return Shape(path.degree, segments_of(path.degree, path.points),
+                 SHEET_FINEST, path.level)
 
 
 def path_lines(index, entries):
@@ -13,8 +20,8 @@ def path_lines(index, entries):
 
 def sheet_lines(upper, lower, paths):
     yield f"paths {len(paths)}"
-    for index, (level, points) in enumerate(paths):
-        entries = path_entries(points, SHEET_FINEST, level, upper, lower)
+    for index, path in enumerate(paths):
+        entries = path_entries(shape_of(path), (upper, lower), path.points)
         yield from path_lines(index, entries)
 
 

@@ -1,25 +1,36 @@
-"""The model's paths: the point list of a path, and its length."""
+"""The model's paths: the point list of a path, and its length.
+
+A path is its shape, its limits (upper, lower) and its points, which come in
+as their numbers.
+"""
 from collections import namedtuple
 
-from model.constants import COORDINATES, DEGREE, ENTRY_NUMBERS
+from model.constants import COORDINATES, ENTRY_NUMBERS
 from model.drawing import (STEP, chosen, last_position, operate, shown,
                            started)
-from model.points import flat, numbers_in, points_of, segments_of
+from model.points import flat, numbers_in, points_of
 from model.rules import (demand, demand_finest, demand_level, demand_limits,
                          demand_points, demand_segments, refusal_or)
 
+Shape = namedtuple("Shape", "degree segments finest level")
 Entry = namedtuple("Entry", ("position", *COORDINATES))
 
 
 # Entries of an accepted path
 
-def segment_entries(k, points, finest, level, upper, lower):
+def segment_points(degree, points, k):
+    """Segment k of degree D uses points Dk to Dk + D."""
+    return points[degree * k:degree * (k + 1) + 1]
+
+
+def segment_entries(shape, limits, points, k):
     """Segment k: its start, and the point after each step."""
-    drawing = started(points, finest, level)
+    degree, _, finest, level = shape
+    drawing = started(degree, segment_points(degree, points, k), finest, level)
     end = last_position(finest)
     entries = [Entry(end * k, *shown(drawing))]
     while drawing.q != end:
-        operation = chosen(drawing, upper, lower)
+        operation = chosen(drawing, *limits)
         refusal, drawing = operate(operation, drawing)
         assert refusal == 0, "the chosen operation is never refused"
         if operation == STEP:
@@ -27,13 +38,11 @@ def segment_entries(k, points, finest, level, upper, lower):
     return entries
 
 
-def path_entries(points, finest, level, upper, lower):
+def path_entries(shape, limits, points):
     """The whole list: a join stands once, as the end of the earlier one."""
     entries = [Entry(0, *points[0])]
-    for k in range(segments_of(points)):
-        part = points[DEGREE * k:DEGREE * (k + 1) + 1]
-        start, *others = segment_entries(k, part, finest, level, upper,
-                                         lower)
+    for k in range(shape.segments):
+        start, *others = segment_entries(shape, limits, points, k)
         assert start == entries[-1], "the join is one entry"
         entries += others
     return entries
@@ -51,21 +60,22 @@ def length(entries):
 
 # Refusals: 14, 24, 1, 2, 3, 4, and 9 where there is a list
 
-def accepted_points(segments, finest, level, limits, numbers):
+def accepted_points(shape, limits, numbers):
     """The points of a path that may be refused. 14, 24, 1, 2, 3, 4."""
+    degree, segments, finest, level = shape
     demand_segments(segments)
-    demand(len(numbers) == numbers_in(segments), 14)
+    demand(len(numbers) == numbers_in(degree, segments), 14)
     demand_finest(finest)
     points = points_of(numbers)
-    demand_points(points, finest)
+    demand_points(points, degree, finest)
     demand_level(level, finest)
     demand_limits(*limits)
     return points
 
 
-def accepted_entries(segments, finest, level, limits, numbers):
-    points = accepted_points(segments, finest, level, limits, numbers)
-    return path_entries(points, finest, level, *limits)
+def accepted_entries(shape, limits, numbers):
+    return path_entries(shape, limits,
+                        accepted_points(shape, limits, numbers))
 
 
 def fitting_entries(room, *path):
@@ -74,19 +84,18 @@ def fitting_entries(room, *path):
     return entries
 
 
-def draw(room, segments, finest, level, limits, numbers):
+def draw(room, shape, limits, numbers):
     """The refusal, the number of points, the length, and the numbers written.
 
-    room is the length of the lent list, limits are (upper, lower), and
-    numbers are those of the control points.
+    room is the length of the lent list.
     """
-    refusal, entries = refusal_or([], fitting_entries, room, segments, finest,
-                                  level, limits, numbers)
+    refusal, entries = refusal_or([], fitting_entries, room, shape, limits,
+                                  numbers)
     return refusal, len(entries), length(entries), flat(entries)
 
 
-def measure(segments, finest, level, limits, numbers):
+def measure(shape, limits, numbers):
     """The refusal, the number of points and the length."""
-    refusal, entries = refusal_or([], accepted_entries, segments, finest,
-                                  level, limits, numbers)
+    refusal, entries = refusal_or([], accepted_entries, shape, limits,
+                                  numbers)
     return refusal, len(entries), length(entries)

@@ -1,22 +1,22 @@
 """Points, and the numbers that they are written as: x, y, width and so on."""
 from collections import namedtuple
 
-from model.constants import COORDINATES, DEGREE, POINT_NUMBERS
+from model.constants import COORDINATES, POINT_NUMBERS
 
 Point = namedtuple("Point", COORDINATES)
 
 
-def points_in(segments):
-    return DEGREE * segments + 1
+def points_in(degree, segments):
+    return degree * segments + 1
 
 
-def numbers_in(segments):
+def numbers_in(degree, segments):
     """How many numbers the points of so many segments are."""
-    return POINT_NUMBERS * points_in(segments)
+    return POINT_NUMBERS * points_in(degree, segments)
 
 
-def segments_of(points):
-    return (len(points) - 1) // DEGREE
+def segments_of(degree, points):
+    return (len(points) - 1) // degree
 
 
 def flat(rows):

@@ -38,9 +38,9 @@ def is_level(level, finest):
     return 0 <= level <= finest
 
 
-def reach(finest):
+def reach(degree, finest):
     """How far apart neighbours may be in each coordinate."""
-    return min(FARTHEST, (2**finest - 2) // 3)
+    return min(FARTHEST[degree], (2**finest - 2) // degree)
 
 
 def demand_finest(finest):
@@ -51,10 +51,10 @@ def demand_level(level, finest):
     demand(is_level(level, finest), 3)
 
 
-def demand_points(points, finest):
+def demand_points(points, degree, finest):
     """1 over all the points, and only then 2."""
     for point in points:
         demand(all(LOWEST <= value <= HIGHEST for value in point), 1)
     for pair in zip(points, points[1:]):
-        demand(all(abs(there - here) <= reach(finest)
+        demand(all(abs(there - here) <= reach(degree, finest)
                    for here, there in zip(*pair)), 2)

@@ -1,21 +1,25 @@
 """The model's sheet: its bytes and its number list, read and written.
 
-A path is (level, points); its finest level is the same on every sheet.
+A path is its degree, its start level and its points; its finest level is the
+same on every sheet. Degree and level stand there as one number, the mark.
 """
+from collections import namedtuple
 from struct import Struct
 
-from model.constants import (MOST_BYTES, MOST_PATHS, POINT_NUMBERS,
-                             SHEET_FINEST)
+from model.constants import (CUBIC, MOST_BYTES, MOST_PATHS, POINT_NUMBERS,
+                             QUADRATIC, QUADRATIC_MARK, SHEET_FINEST)
 from model.points import (Point, flat, numbers_in, points_in, points_of,
                           segments_of)
 from model.rules import (demand, demand_level, demand_limits, demand_points,
                          demand_segments, refusal_or)
 
+Path = namedtuple("Path", "degree level points")
+
 # What stands in the bytes, and as how many numbers in the list
 
 HEADER, HEADER_NUMBERS = Struct("<III"), 3          # count, upper, lower
 OFFSET = Struct("<I")
-RECORD, RECORD_NUMBERS = Struct("<HH"), 2           # segments, start level
+RECORD, RECORD_NUMBERS = Struct("<HH"), 2           # segments, mark
 POINT = Struct(f"<{POINT_NUMBERS}h")
 
 
@@ -24,16 +28,35 @@ def records_start(count):
     return HEADER.size + OFFSET.size * count
 
 
+# The mark: a level, with 256 added in a quadratic record
+
+def mark_of(degree, level):
+    return level + QUADRATIC_MARK if degree == QUADRATIC else level
+
+
+def marked(mark):
+    """Degree and level; the mark and so the level may be any number."""
+    if mark >= QUADRATIC_MARK:
+        return QUADRATIC, mark - QUADRATIC_MARK
+    return CUBIC, mark
+
+
 # Builders: they refuse nothing, so that they can make bad sheets as well
 
-def record_bytes(level, points):
-    record = RECORD.pack(segments_of(points), level)
-    return record + b"".join(POINT.pack(*point) for point in points)
+def record_head(path):
+    """Segments and mark."""
+    return (segments_of(path.degree, path.points),
+            mark_of(path.degree, path.level))
+
+
+def record_bytes(path):
+    points = b"".join(POINT.pack(*point) for point in path.points)
+    return RECORD.pack(*record_head(path)) + points
 
 
 def sheet_bytes(upper, lower, paths):
     """The sheet: header, offsets, records."""
-    records = [record_bytes(level, points) for level, points in paths]
+    records = [record_bytes(path) for path in paths]
     header = HEADER.pack(len(paths), upper, lower)
     offset = records_start(len(paths))
     for record in records:
@@ -45,8 +68,8 @@ def sheet_bytes(upper, lower, paths):
 def sheet_numbers(upper, lower, paths):
     """The sheet's number list."""
     numbers = [len(paths), upper, lower]
-    for level, points in paths:
-        numbers += [segments_of(points), level, *flat(points)]
+    for path in paths:
+        numbers += [*record_head(path), *flat(path.points)]
     return numbers
 
 
@@ -56,14 +79,15 @@ def read_record(data, start):
     """One path, and where its record ends. 15, 14, 3, 15, 1, 2."""
     points_start = start + RECORD.size
     demand(points_start <= len(data), 15)
-    segments, level = RECORD.unpack_from(data, start)
+    segments, mark = RECORD.unpack_from(data, start)
+    degree, level = marked(mark)
     demand_segments(segments)
     demand_level(level, SHEET_FINEST)
-    end = points_start + POINT.size * points_in(segments)
+    end = points_start + POINT.size * points_in(degree, segments)
     demand(end <= len(data), 15)
     points = [Point(*row) for row in POINT.iter_unpack(data[points_start:end])]
-    demand_points(points, SHEET_FINEST)
-    return (level, points), end
+    demand_points(points, degree, SHEET_FINEST)
+    return Path(degree, level, points), end
 
 
 def read_paths(data):
@@ -104,14 +128,15 @@ def take_path(numbers, start):
     """One path, and where its numbers end. 17, 14, 3, 17, 1, 2."""
     points_start = start + RECORD_NUMBERS
     demand(points_start <= len(numbers), 17)
-    segments, level = numbers[start:points_start]
+    segments, mark = numbers[start:points_start]
+    degree, level = marked(mark)
     demand_segments(segments)
     demand_level(level, SHEET_FINEST)
-    end = points_start + numbers_in(segments)
+    end = points_start + numbers_in(degree, segments)
     demand(end <= len(numbers), 17)
     points = points_of(numbers[points_start:end])
-    demand_points(points, SHEET_FINEST)
-    return (level, points), end
+    demand_points(points, degree, SHEET_FINEST)
+    return Path(degree, level, points), end
 
 
 def take_paths(numbers):

@@ -10,7 +10,7 @@ from document_cases import FINEST, LIMITS, drawing
 from model.constants import LEAST, MOST
 from model.points import flat
 from probe_model import OPERATION_NAMES
-from probe_protocol import line
+from probe_protocol import START_NAMES, line
 
 HALVE, DOUBLE, STEP = 0, 1, 2
 
@@ -45,8 +45,10 @@ def operated_width(what, name, refusal, level, *registers):
 
 
 def started(what, refusal, ys, level, widths=(0, 0, 0, 0), finest=FINEST):
+    """Of four points a cubic, of three a quadratic."""
     points = flat([0, y, width] for y, width in zip(ys, widths))
-    return what, "start", [*points, finest, level], line([refusal, ""])
+    name = START_NAMES[len(ys) - 1]
+    return what, name, [*points, finest, level], line([refusal, ""])
 
 
 AT_REST = [0, 0, 0, 0]
@@ -169,6 +171,26 @@ CASES = [
             finest=12),
     started("3 by F = 12", 3, [682, 0, 0, 0], 13, finest=12),
     started("2 before 3 by F = 12", 2, [683, 0, 0, 0], 13, finest=12),
+    started("1 before 2 and 3, quadratic", 1, [16_384, 0, 0], 12),
+    started("1 by the middle point, quadratic", 1, [0, -16_385, 0], 12),
+    started("1 by the last point, quadratic", 1, [0, 0, -16_385], 0),
+    started("1 by a width before 2, quadratic", 1, [1_024, 0, 0], 12,
+            [0, 0, 16_384]),
+    started("2 before 3, quadratic", 2, [1_024, 0, 0], 12),
+    started("2 by the last point, quadratic", 2, [0, 0, -1_024], 0),
+    started("2 by a width, quadratic", 2, [0, 0, 0], 0, [0, 1_024, 1_024]),
+    started("3, quadratic", 3, [1_023, 0, 0], 12),
+    started("none, quadratic", 0, [1_023, 0, 1_023], 11, [0, -1_023, 0]),
+    started("24 before 1, quadratic", 24, [16_384, 0, 0], 0, finest=13),
+    started("24 below, quadratic", 24, [0, 0, 0], 0, finest=5),
+    started("as far apart as F = 6 lets it, quadratic", 0, [31, 0, 31], 6,
+            finest=6),
+    started("2 before 3 by F = 6, quadratic", 2, [32, 0, 0], 7, finest=6),
+    started("3 by F = 6, quadratic", 3, [31, 0, 0], 7, finest=6),
+    started("as far apart as F = 12 lets it, quadratic", 0, [1_023, 0, 0], 12,
+            finest=12),
+    started("2 before 3 by F = 12, quadratic", 2, [1_024, 0, 0], 13,
+            finest=12),
     refused_choice("4 before 10 and 5", 4, 12, 2_048, [0, 0]),
     refused_choice("4 before 5", 4, 0, 2_048, [65_537, 0]),
     refused_choice("choosing: 10 before 5", 10, 12, 2_048),

@@ -1,15 +1,18 @@
-"""What is made by chance: levels, walks of points, sheets, and damage to them.
+"""What is made by chance: degrees, levels, walks of points, sheets, and damage
+to them.
 
 It comes from the random.Random that is handed in, so that a seed decides it.
 """
 from itertools import product
 
 from makers import point
-from model.constants import (FARTHEST, HIGHEST, LEAST, LEAST_FINEST, LOWEST,
-                             MOST, MOST_FINEST, MOST_SEGMENTS, ONE_UNIT,
-                             POINT_NUMBERS, SHEET_FINEST, STANDARD_LIMITS)
+from model.constants import (CUBIC, DEGREES, FARTHEST, HIGHEST, LEAST,
+                             LEAST_FINEST, LOWEST, MOST, MOST_FINEST,
+                             MOST_SEGMENTS, ONE_UNIT, POINT_NUMBERS, QUADRATIC,
+                             QUADRATIC_MARK, SHEET_FINEST, STANDARD_LIMITS)
 from model.points import points_in
 from model.rules import reach
+from model.sheet import Path
 
 
 def one_in(chance, number):
@@ -20,7 +23,15 @@ def clamped(value, least, most):
     return min(max(value, least), most)
 
 
-# Finest levels, and levels
+# Degrees, finest levels, and levels
+
+def random_degree(chance):
+    return chance.choice(DEGREES)
+
+
+def other_degree(degree):
+    return QUADRATIC if degree == CUBIC else CUBIC
+
 
 FINEST_LEVELS = range(LEAST_FINEST, MOST_FINEST + 1)
 
@@ -59,13 +70,14 @@ def random_walk(chance, start, number, farthest):
     return points
 
 
-def random_points(chance, number, finest):
-    """So many: all of them near together or all far apart, and so the widths
-    by themselves."""
-    most = reach(finest)
+def random_points(chance, degree, segments, finest):
+    """Of so many segments: all of them near together or all far apart, and so
+    the widths by themselves."""
+    most = reach(degree, finest)
     farthest = [min(each, most) for each in
                 chance.choices([0, 1, 3, 3, 20, 20, 100, most], k=2)]
-    return random_walk(chance, random_start(chance), number, lambda: farthest)
+    return random_walk(chance, random_start(chance),
+                       points_in(degree, segments), lambda: farthest)
 
 
 # Good sheets, and what they are made of
@@ -83,10 +95,11 @@ def random_limits(chance):
 
 def random_path(chance):
     """A path of 1 or 2 segments, at times near the ends."""
+    degree = random_degree(chance)
     points = random_walk(chance, random_start(chance),
-                         points_in(chance.randint(1, 2)),
-                         lambda: chance.choices([3, FARTHEST], k=2))
-    return random_level(chance, SHEET_FINEST), points
+                         points_in(degree, chance.randint(1, 2)),
+                         lambda: chance.choices([3, FARTHEST[degree]], k=2))
+    return Path(degree, random_level(chance, SHEET_FINEST), points)
 
 
 def random_sheet(chance):
@@ -106,10 +119,22 @@ def strange_byte(chance):
 
 def strange_number(chance):
     return chance.choice([-1, 0, 1, 2, 3, SHEET_FINEST, SHEET_FINEST + 1,
-                          MOST_SEGMENTS, MOST_SEGMENTS + 1, FARTHEST,
-                          FARTHEST + 1, HIGHEST, HIGHEST + 1, LOWEST,
-                          LOWEST - 1, ONE_UNIT, MOST, LEAST,
-                          chance.randint(-700, 700)])
+                          MOST_SEGMENTS, MOST_SEGMENTS + 1, FARTHEST[CUBIC],
+                          FARTHEST[CUBIC] + 1, FARTHEST[QUADRATIC],
+                          FARTHEST[QUADRATIC] + 1, HIGHEST, HIGHEST + 1,
+                          LOWEST, LOWEST - 1, ONE_UNIT, MOST, LEAST,
+                          chance.randint(-700, 700), strange_mark(chance)])
+
+
+def strange_mark(chance):
+    """At the ends of what marks a quadratic's level, or that level with more
+    added than 256, or taken off."""
+    level = random_level(chance, SHEET_FINEST)
+    return chance.choice([QUADRATIC_MARK - 1, QUADRATIC_MARK,
+                          QUADRATIC_MARK + SHEET_FINEST,
+                          QUADRATIC_MARK + SHEET_FINEST + 1,
+                          *[level + times * QUADRATIC_MARK
+                            for times in (-1, 1, 2, 3, 255, 257)]])
 
 
 def damage(chance, values, strange):

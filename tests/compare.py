@@ -19,9 +19,8 @@ from above import ROOT
 from document_cases import SHEET
 from listing_cases import TOO_LONG, make_sheets
 from makers import LONGEST
-from misread import TELLING
 from model.listing import listing
-from outcomes import RULES, answered, missing
+from outcomes import QUADRATICS, RULES, TOLD, answered, missing
 from probe_protocol import in_words
 from probe_requests import limit_requests, make_batch
 from programs import build_missing, run_program
@@ -29,7 +28,7 @@ from tally import Tally
 
 BATCH = 1_000
 PROGRESS = 5_000        # requests from one line of progress to the next
-ENOUGH = 10_000         # requests of which no outcome may be missing
+ENOUGH = 20_000         # requests of which no outcome may be missing
 SHOWN = 5               # differences that are shown
 CUT = 400               # characters of each that are shown
 
@@ -120,14 +119,16 @@ def compare_requests(report, seed, number, root):
 
 
 def show_tally(tally):
-    for name, outcomes in RULES.items():
+    for name, rules in RULES.items():
+        outcomes = rules | QUADRATICS.get(name, set())
         counts = {one: tally[name, one] for one in sorted(outcomes, key=str)}
         print(f"{name}: {sum(counts.values())};",
               ", ".join(f"{one}: {count}" for one, count in counts.items()))
-        telling = [tally[name, one] for one in TELLING.get(name, [])]
-        if telling:
-            print(f"    its finest level told in {len(telling)} ways, each",
-                  f"{min(telling)} times or more")
+        for what, ways in TOLD.items():
+            telling = [tally[name, one] for one in ways.get(name, [])]
+            if telling:
+                print(f"    {what} told in {len(telling)} ways, each",
+                      f"{min(telling)} times or more")
 
 
 # The listing

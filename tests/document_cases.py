@@ -1,15 +1,16 @@
 """Document 01's own cases: A to M as requests for the probe, and its sheet.
 
 CASES has (letter, name of the request, argument words, answer line). The
-cases speak of one coordinate, x here; the others are 0 throughout. The finest
-level is 11, the only one of document 01. Every number of an answer is the
-document's, or reckoned by hand where it gives none: the lengths of B, K and L,
-the start and the step of M.
+cases speak of one coordinate, x here; the others are 0 throughout. Curves are
+cubics and the finest level is 11, as document 01 has it. Every number of an
+answer is the document's, or reckoned by hand where it gives none: the lengths
+of B, K and L, the start and the step of M.
 
 SHEET is path A in the form of order 8, its widths 0; OLD_SHEET has the bytes
 that document 01 gives, which have no widths.
 """
 import makers
+from model.constants import CUBIC
 from model.points import flat
 from probe_protocol import REGISTER_WORDS, line
 
@@ -51,7 +52,7 @@ def drawn(letter, level, xs, positions, drawn_xs, length):
     """A path of one segment, drawn with as much room as it needs."""
     entries = flat([position, *on_x(x)]
                    for position, x in zip(positions, drawn_xs))
-    words = [len(entries), 1, FINEST, level, *LIMITS, *on_x(*xs)]
+    words = [len(entries), CUBIC, 1, FINEST, level, *LIMITS, *on_x(*xs)]
     return letter, "draw", words, line([0, len(positions), length, *entries])
 
 

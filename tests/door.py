@@ -2,7 +2,7 @@
 
     python3 tests/door.py
 
-First the lanes of its pictures. Then the script of this repository, with the
+First the lanes and curves of its pictures. Then the script of this repository, with the
 program that the kit builds: it is built where it is missing. Where a listing
 is not taken whole, the program is tried by itself too. Then a copy of the
 script with a kit that only pretends: its rt and its loader are small scripts,
@@ -19,6 +19,7 @@ from pathlib import Path
 from xml.dom import minidom
 
 from above import ROOT
+from curve_cases import check_curves
 from document_cases import LISTING, OLD_SHEET, SHEET
 from lane_cases import check_lanes
 from makers import sheet, zigzag
@@ -31,7 +32,9 @@ from spoilt import two_of_each
 from tally import Tally
 
 EXAMPLES = ROOT / "examples"
-ACCEPTED = {"document": 0, "empty": 0, "letters": 2, "paths": 4, "slow-start": 1, "spiral": 1}     # and their lanes
+ACCEPTED = {"document": 0, "empty": 0, "letters": 2, "outline": 2, "paths": 4, "slow-start": 1, "spiral": 1}   # and their lanes
+PICTURES = ["letters", "outline"]                   # examples that docs/ has a picture of
+MEANINGS = {2: "682 apart in x, in y or in width, in a quadratic path more than 1,023;", 3: "with 256 added in a quadratic path"}
 INSTALLERS = "apt apt-get apk brew dnf pacman pip3 sudo yum zypper".split()
 DOCUMENT = LISTING.encode()
 LONG = sheet(zigzag(MOST_SEGMENTS, 0, 600))         # its listing is too long for a pipe
@@ -83,17 +86,18 @@ def test_examples(tally):
 def test_document(tally):
     tally.equal("document 01's sheet", (EXAMPLES / "document.sheet").read_bytes(), SHEET)
     tally.answer("document 01's listing", run(SCRIPT, EXAMPLES / "document.sheet"), 0, DOCUMENT)
-    drawn = run(SCRIPT, "--svg", EXAMPLES / "letters.sheet").stdout
-    tally.holds("the picture in docs/", (ROOT / "docs" / "letters.svg").read_bytes() == drawn)
+    for name in PICTURES:
+        drawn = run(SCRIPT, "--svg", EXAMPLES / f"{name}.sheet").stdout
+        tally.holds(f"the picture docs/{name}.svg", (ROOT / "docs" / f"{name}.svg").read_bytes() == drawn)
 
 
 def test_refusals(tally):
     for refusal, data in two_of_each():
-        said = f"(refusal {refusal})."
-        tally.answer(f"refusal {refusal}", run(SCRIPT, sheet=data), 1, b"refused %d\n" % refusal, "the sheet was refused: ", said)
-        tally.answer(f"refusal {refusal} drawn", run(SCRIPT, "--svg", sheet=data), 1, b"", said)
+        said = MEANINGS.get(refusal, "; look "), f"(refusal {refusal})."
+        tally.answer(f"refusal {refusal}", run(SCRIPT, sheet=data), 1, b"refused %d\n" % refusal, "the sheet was refused: ", *said)
+        tally.answer(f"refusal {refusal} drawn", run(SCRIPT, "--svg", sheet=data), 1, b"", *said)
     refused = run(SCRIPT, EXAMPLES / "refused.sheet")
-    tally.answer("the refused example", refused, 1, b"refused 2\n", "682 apart in x, in y or in width", "(refusal 2).")
+    tally.answer("the refused example", refused, 1, b"refused 2\n", MEANINGS[2], "(refusal 2).")
     for refusal, data in [(15, OLD_SHEET), *BY_HAND]:
         tally.answer("a sheet without widths", run(SCRIPT, sheet=data), 1, b"refused %d\n" % refusal, "has to be made anew")
 
@@ -269,6 +273,7 @@ def test_program(tally, room):
 def main():
     tally = Answers()
     check_lanes(tally)
+    check_curves(tally)
     run(SCRIPT, EXAMPLES / "empty.sheet")       # builds the program
     for test in [test_examples, test_document, test_refusals]:
         test(tally)

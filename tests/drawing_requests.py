@@ -1,8 +1,8 @@
 """Argument words for the probe's requests of one drawing, made by chance."""
 from itertools import product
 
-from chance import (clamped, one_in, random_finest, random_level,
-                    random_limits, random_points)
+from chance import (clamped, one_in, other_degree, random_degree,
+                    random_finest, random_level, random_limits, random_points)
 from finest_requests import (any_level, any_position, bad_finest, bad_place,
                              before_end, telling_place)
 from model.constants import (COORDINATES, FARTHEST, HIGHEST, LEAST, LOWEST,
@@ -11,7 +11,7 @@ from model.constants import (COORDINATES, FARTHEST, HIGHEST, LEAST, LOWEST,
 from model.drawing import (DOUBLE, HALVE, STEP, STILL, Drawing,
                            double_registers, doubled, halve_registers,
                            largest_increment, operate, start, step_registers)
-from model.points import flat, numbers_in, points_in
+from model.points import flat
 from model.rules import reach
 from probe_protocol import REGISTER_WORDS, drawing_of, words_of
 
@@ -25,15 +25,14 @@ BAD_LIMITS = [(0, 0), (ONE_UNIT + 1, 0), (1, 2), (ONE_UNIT, ONE_UNIT + 1),
 
 # The numbers of control points
 
-def random_numbers(chance, segments, finest):
-    return flat(random_points(chance, points_in(segments), finest))
-
-
-def set_gap(chance, numbers, finest):
-    """Neighbours as far apart as they may be, or one more, or far."""
-    most = reach(finest)
+def set_gap(chance, numbers, degree, finest):
+    """Neighbours as far apart as they may be, or one more, or far; at times as
+    the other degree has it."""
+    most, farthest = reach(degree, finest), FARTHEST[degree]
     gap = chance.choice([most, most + 1, most + 1,
-                         chance.randint(most + 1, FARTHEST + 1), 700, 9_000])
+                         reach(other_degree(degree), finest),
+                         chance.randint(most + 1, farthest + 1), 2 * farthest,
+                         9_000])
     gap *= chance.choice([1, -1])
     place = chance.randrange(POINT_NUMBERS, len(numbers))
     before = numbers[place - POINT_NUMBERS]
@@ -93,8 +92,8 @@ def edge_registers(chance, level, name):
 
 def reached(chance):
     """What random operations make of an accepted start."""
-    finest = random_finest(chance)
-    refusal, drawing = start(random_points(chance, points_in(1), finest),
+    degree, finest = random_degree(chance), random_finest(chance)
+    refusal, drawing = start(degree, random_points(chance, degree, 1, finest),
                              finest, random_level(chance, finest))
     assert refusal == 0
     operations = chance.choice([[HALVE, DOUBLE, STEP, STEP],
@@ -174,16 +173,16 @@ def edge_drawing(chance, name):
 
 # Requests
 
-def make_start(chance):
+def make_start(chance, degree):
     finest = random_finest(chance)
-    numbers = random_numbers(chance, 1, finest)
+    numbers = flat(random_points(chance, degree, 1, finest))
     level = any_level(chance, finest)
     if one_in(chance, 5):
-        set_gap(chance, numbers, finest)
+        set_gap(chance, numbers, degree, finest)
     if one_in(chance, 5):
         spoil_coordinate(chance, numbers)
     if one_in(chance, 20):
-        numbers = any_words(chance, numbers_in(1))
+        numbers = any_words(chance, len(numbers))
     if one_in(chance, 8):
         finest = bad_finest(chance)
     return [*numbers, finest, level]

@@ -1,15 +1,21 @@
-"""Random drawings and paths of the model, at every finest level F, held to the
-exact curve."""
+"""Random drawings and paths of the model, of both degrees and at every finest
+level F, held to the exact curve.
+
+A curve is the arguments of a start: degree, points, F and level.
+"""
 import random
 from fractions import Fraction
+from itertools import accumulate, product
 
 from chance import FINEST_LEVELS, random_level, random_limits, random_points
-from model.constants import LEAST_FINEST, ONE_UNIT
+from model.constants import (CUBIC, DEGREES, LEAST, LEAST_FINEST, MOST,
+                             ONE_UNIT, QUADRATIC)
 from model.drawing import (DOUBLE, HALVE, STEP, chosen, coefficients,
-                           last_position, operate, registers_of, shown,
+                           last_position, operate, registers_of, shown, start,
                            started)
-from model.path import path_entries
-from model.points import Point, points_in, segments_of
+from model.path import Shape, path_entries
+from model.points import Point, flat
+from model.rules import reach
 
 # A distance from the exact curve is less than this, in 65,536ths: by F
 DISTANCES = {6: 192, 7: 384, 8: 768, 9: 1_536, 10: 3_072, 11: 6_144,
@@ -17,34 +23,52 @@ DISTANCES = {6: 192, 7: 384, 8: 768, 9: 1_536, 10: 3_072, 11: 6_144,
 
 
 def random_curves(chance, number):
-    """So many for each F: the points, F and a level."""
-    for finest in FINEST_LEVELS:
+    """So many for each degree and F."""
+    for degree, finest in product(DEGREES, FINEST_LEVELS):
         for _ in range(number):
-            yield (random_points(chance, points_in(1), finest), finest,
+            yield (degree, random_points(chance, degree, 1, finest), finest,
                    random_level(chance, finest))
+
+
+def extreme_curves():
+    """All neighbours as far apart as they may be, in every way in x, and in y
+    the other way; the width goes on and on."""
+    for degree, finest in product(DEGREES, FINEST_LEVELS):
+        far = reach(degree, finest)
+        for ways in product([1, -1], repeat=degree):
+            xs = [0, *accumulate(far * way for way in ways)]
+            points = [(x, -x, k * far) for k, x in enumerate(xs)]
+            yield degree, points, finest, 0
 
 
 def check_start(tally):
     """Floors within each other give the same c as one floor of the sum."""
-    for points, finest, level in random_curves(random.Random(10), 15):
-        drawing = started(points, finest, level)
+    for curve in random_curves(random.Random(10), 15):
+        degree, points, _, level = curve
+        drawing = started(*curve)
         for values, registers in zip(zip(*points), registers_of(drawing)):
-            A, B, C, _ = (65_536 * value for value in coefficients(*values))
+            A, B, C, _ = (65_536 * value
+                          for value in coefficients(degree, values))
             tally.equal(f"c of {values}", registers[2],
                         C + ((B + (A >> level)) >> level))
 
 
 # Drawings
 
-def exact(values, t):
-    A, B, C, D = coefficients(*values)
-    return A * t**3 + B * t**2 + C * t + D
+def exact(values, q, end):
+    """The Bezier curve of these control points, of any degree, at q / end:
+    neighbours are mixed so, again and again, till one is left."""
+    mixed = values
+    while len(mixed) > 1:
+        mixed = [here * (end - q) + there * q
+                 for here, there in zip(mixed, mixed[1:])]
+    return Fraction(mixed[0], end ** (len(values) - 1))
 
 
 def distance(points, drawing):
     """The largest one in a coordinate between the drawing and the curve."""
-    t = Fraction(drawing.q, last_position(drawing.finest))
-    return max(abs(Fraction(registers[3], ONE_UNIT) - exact(values, t))
+    place = drawing.q, last_position(drawing.finest)
+    return max(abs(Fraction(registers[3], ONE_UNIT) - exact(values, *place))
                for values, registers in zip(zip(*points),
                                             registers_of(drawing)))
 
@@ -57,6 +81,14 @@ def by_choosing(chance, drawing):
         yield refusal, drawing
 
 
+def by_steps(drawing, level):
+    """Each answer on the way to the end, with all steps at one level."""
+    while drawing.q != last_position(drawing.finest):
+        operation = HALVE if drawing.level < level else STEP
+        refusal, drawing = operate(operation, drawing)
+        yield refusal, drawing
+
+
 def by_any_calls(chance, drawing):
     """The answers to some calls, which may be refused."""
     for _ in range(chance.choice([5, 50, 200])):
@@ -66,11 +98,15 @@ def by_any_calls(chance, drawing):
 
 
 def check_drawing(tally, curve, calls, refusals):
-    """These calls lead along the curve, and no other refusal comes of them."""
-    points, finest, _ = curve
+    """These calls lead along the curve, and no other refusal comes of them:
+    none is 10, by registers outside 32 bits."""
+    _, points, finest, _ = curve
     drawing = started(*curve)
     farthest, met = distance(points, drawing), set()
     tally.equal(f"{curve} at its start", farthest, 0)
+    tally.holds(f"{curve} in 32 bits",
+                all(LEAST <= register <= MOST
+                    for register in flat(registers_of(drawing))))
     for refusal, drawing in calls(drawing):
         farthest = max(farthest, distance(points, drawing))
         met.add(refusal)
@@ -85,30 +121,44 @@ def check_distance(tally):
     chance = random.Random(3)
     for curve in random_curves(chance, 6):
         check_drawing(tally, curve, lambda one: by_choosing(chance, one), {0})
-    for curve in random_curves(chance, 20):
+    for curve in [*random_curves(chance, 20), *extreme_curves()]:
         check_drawing(tally, curve, lambda one: by_any_calls(chance, one),
                       {0, 5, 6, 7, 8})
+
+
+def check_extremes(tally):
+    """The whole way, with all steps at level F and with one at level 0."""
+    for curve in extreme_curves():
+        for level in (curve[2], 0):
+            check_drawing(tally, curve, lambda one: by_steps(one, level), {0})
 
 
 # Lists
 
 def random_paths(chance, number):
-    """So many for each F: the points, F, a level and limits."""
-    for finest in FINEST_LEVELS:
+    """So many for each degree and F: a shape, limits and points."""
+    for degree, finest in product(DEGREES, FINEST_LEVELS):
         for _ in range(number):
             segments = chance.randint(1, 3)
-            yield (random_points(chance, points_in(segments), finest), finest,
-                   random_level(chance, finest), *random_limits(chance))
+            points = random_points(chance, degree, segments, finest)
+            shape = Shape(degree, segments, finest,
+                          random_level(chance, finest))
+            yield shape, random_limits(chance), points
 
 
 def touch(here, there):
     return abs(there.x - here.x) <= 1 and abs(there.y - here.y) <= 1
 
 
+def extreme_paths():
+    for degree, points, finest, level in extreme_curves():
+        yield Shape(degree, 1, finest, level), (ONE_UNIT, 0), points
+
+
 def check_lists(tally):
     """Neighbours touch in x and y, and positions rise from 0 to 2^F * S."""
-    for path in random_paths(random.Random(9), 8):
-        points, finest, *_ = path
+    for path in [*random_paths(random.Random(9), 8), *extreme_paths()]:
+        shape, *_ = path
         entries = path_entries(*path)
         tally.holds(f"the neighbours of {path} touch",
                     all(map(touch, entries, entries[1:])))
@@ -117,21 +167,60 @@ def check_lists(tally):
                     sorted(set(positions)))
         tally.equal(f"the first and the last one of {path}",
                     (positions[0], positions[-1]),
-                    (0, 2**finest * segments_of(points)))
+                    (0, 2**shape.finest * shape.segments))
 
 
 def check_positions(tally):
     """Where upper is a whole unit, F changes nothing but positions: at level F
     no increment is larger, so that rule 1 never asks for a finer one."""
     chance = random.Random(99)
-    for _ in range(40):
-        points = random_points(chance, points_in(2), LEAST_FINEST)
-        path = (random_level(chance, LEAST_FINEST), ONE_UNIT,
-                chance.randint(0, ONE_UNIT))
+    for degree in DEGREES * 30:
+        points = random_points(chance, degree, 2, LEAST_FINEST)
+        shape = Shape(degree, 2, LEAST_FINEST,
+                      random_level(chance, LEAST_FINEST))
+        limits = ONE_UNIT, chance.randint(0, ONE_UNIT)
+        here = path_entries(shape, limits, points)
         for finest in FINEST_LEVELS:
-            here, there = (path_entries(points, each, *path)
-                           for each in (LEAST_FINEST, finest))
+            there = path_entries(shape._replace(finest=finest), limits, points)
             times = 2 ** (finest - LEAST_FINEST)
             tally.equal(f"{points} by F = {finest}", there,
                         [entry._replace(position=times * entry.position)
                          for entry in here])
+
+
+# Quadratics that are cubics too
+
+def third(*points):
+    """A third of these points together."""
+    return tuple(sum(values) // 3 for values in zip(*points))
+
+
+def as_cubics(points):
+    """The cubics that are the same curves as a path's quadratics, whose
+    coordinates are multiples of 3."""
+    for p0, p1, p2 in zip(points[::2], points[1::2], points[2::2]):
+        yield from (p0, third(p0, p1, p1), third(p1, p1, p2))
+    yield points[-1]
+
+
+def thrice(points):
+    """About as far apart as these points, and multiples of 3."""
+    return [tuple(3 * (value // 4) for value in point) for point in points]
+
+
+def check_as_cubics(tally):
+    """They start the same drawing, and have the same list."""
+    chance = random.Random(1010)
+    for finest in [*FINEST_LEVELS] * 8:
+        segments = chance.randint(1, 3)
+        level, limits = random_level(chance, finest), random_limits(chance)
+        points = thrice(random_points(chance, QUADRATIC, segments, finest))
+        elevated = list(as_cubics(points))
+        tally.equal(f"start of {points}",
+                    start(QUADRATIC, points[:3], finest, level),
+                    start(CUBIC, elevated[:4], finest, level))
+        tally.equal(f"list of {points}",
+                    path_entries(Shape(QUADRATIC, segments, finest, level),
+                                 limits, points),
+                    path_entries(Shape(CUBIC, segments, finest, level),
+                                 limits, elevated))

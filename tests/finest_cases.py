@@ -2,12 +2,14 @@
 level F, and at some that are none.
 
 CASES has (what is tried, name of the request, argument words, answer line).
+Where nothing else is said curves are cubics.
 """
 from document_cases import LIMITS, NO_DRAWING, TWELVE, drawing, on_x
 from makers import on_width
+from model.constants import CUBIC
 from model.points import flat
 from probe_model import OPERATION_NAMES
-from probe_protocol import UNUSED_NUMBER, line
+from probe_protocol import START_NAMES, UNUSED_NUMBER, line
 
 # F, the end of a segment, and how far apart neighbours may be
 BY_FINEST = [(6, 64, 20), (7, 128, 42), (8, 256, 84), (9, 512, 170),
@@ -22,13 +24,13 @@ UNWRITTEN = [UNUSED_NUMBER] * ROOM
 A_POINTS, C_POINTS = on_x(0, 1, 2, 3), on_x(0, 0, 0, 8)
 
 
-def started(what, finest, level, numbers, *registers):
+def started(what, finest, level, numbers, *registers, degree=CUBIC):
     answer = [0, *drawing(level, 0, *registers, finest=finest)]
-    return what, "start", [*numbers, finest, level], line(answer)
+    return what, START_NAMES[degree], [*numbers, finest, level], line(answer)
 
 
-def refused_start(what, refusal, finest, level, numbers):
-    return (what, "start", [*numbers, finest, level],
+def refused_start(what, refusal, finest, level, numbers, degree=CUBIC):
+    return (what, START_NAMES[degree], [*numbers, finest, level],
             line([refusal, *NO_DRAWING]))
 
 
@@ -44,15 +46,16 @@ def refused_drawing(what, refusal, numbers):
     yield what, "next_standard", numbers, line([refusal, 0])
 
 
-def drawn(what, segments, finest, numbers, entries, length):
+def drawn(what, segments, finest, numbers, entries, length, degree=CUBIC):
     """A path drawn from level 0, with as much room as it needs."""
     listed = flat(entries)
-    words = [len(listed), segments, finest, 0, *LIMITS, *numbers]
+    words = [len(listed), degree, segments, finest, 0, *LIMITS, *numbers]
     return what, "draw", words, line([0, len(entries), length, *listed])
 
 
-def measured(what, points, length, segments, finest, level, limits, numbers):
-    words = [segments, finest, level, *limits, *numbers]
+def measured(what, points, length, segments, finest, level, limits, numbers,
+             degree=CUBIC):
+    words = [degree, segments, finest, level, *limits, *numbers]
     return what, "measure", words, line([0, points, length])
 
 
@@ -64,9 +67,10 @@ def by_each_entry(what, path, limits, numbers, answer, listed):
         yield what, "measure" + name, words, line(answer)
 
 
-def refused_path(what, refusal, segments, finest, level, limits, numbers):
-    return by_each_entry(what, [segments, finest, level], limits, numbers,
-                         [refusal, 0, 0], UNWRITTEN)
+def refused_path(what, refusal, segments, finest, level, limits, numbers,
+                 degree=CUBIC):
+    return by_each_entry(what, [degree, segments, finest, level], limits,
+                         numbers, [refusal, 0, 0], UNWRITTEN)
 
 
 # C at level n: a and b are 3,145,728 / 2^n and c is 524,288 / 4^n, as far as
@@ -144,7 +148,7 @@ def corner(far):
 def neighbours(finest, end, far):
     yield started("neighbours", finest, 0, on_x(*corner(far)),
                   65_536 * 6 * far, 0, 65_536 * far, 0)
-    yield from by_each_entry("neighbours", [1, finest, 0], LIMITS,
+    yield from by_each_entry("neighbours", [CUBIC, 1, finest, 0], LIMITS,
                              flat(on_width(3, 4, *corner(far))),
                              [0, 2, 0], [0, 3, 4, 0, end, 3, 4, far])
     for numbers in (on_x(*corner(far + 1)), on_x(*corner(-far - 1)),
@@ -225,7 +229,8 @@ ORDER = [
     *refused_path("2 by F before 3 by F", 2, 1, 6, 7, LIMITS,
                   on_x(0, 21, 21, 21)),
     *refused_path("3 by F before 4", 3, 1, 6, 7, (0, 0), A_POINTS),
-    ("4 at level F", "measure", [1, 6, 6, 0, 0, *A_POINTS], line([4, 0, 0])),
+    ("4 at level F", "measure", [CUBIC, 1, 6, 6, 0, 0, *A_POINTS],
+     line([4, 0, 0])),
 ]
 
 CASES = [

@@ -6,18 +6,20 @@ of many requests, by the name of the entry:
     F = 6           accepted; for F = 5 and F = 13, refused for F alone
     6, by 11 0      the first rule that is broken, and the first one that is
                     broken with 11 in the place of F; 0 for none
+    ..., quadratic  by a quadratic path
 
 A path that is only measured tells by its count, where a small upper limit
 makes F felt. Under the standard limits F changes nothing but positions.
 """
 from chance import FINEST_LEVELS
-from model.constants import (FARTHEST, LEAST_FINEST, MOST_FINEST,
-                             POINT_NUMBERS, SHEET_FINEST)
+from model.constants import (LEAST_FINEST, MOST_FINEST, POINT_NUMBERS,
+                             QUADRATIC, SHEET_FINEST)
 from model.drawing import OPERATIONS, chosen, last_position, step_size
 from model.path import accepted_points
 from model.rules import is_finest, is_level, reach, refusal_or
 from probe_model import OPERATION_NAMES, answer, path_of, with_limits
-from probe_protocol import DRAWING_WORDS, POINTS_START, drawing_of, unsigned
+from probe_protocol import (DEGREE_PLACE, DRAWING_WORDS, POINTS_START,
+                            START_DEGREE, degree_of, drawing_of, unsigned)
 
 TAKEN = SHEET_FINEST        # for F, by such a program
 
@@ -30,11 +32,26 @@ def instead(right, wrong):
     return f"{right}, by {TAKEN} {wrong}"
 
 
+def of_quadratic(one):
+    return f"{one}, quadratic"
+
+
+def of_both(ones):
+    return ones | set(map(of_quadratic, ones))
+
+
+def by_degree(name, words, one):
+    """What comes of a path, as it is called for its degree."""
+    if name in DEGREE_PLACE and degree_of(name, words) == QUADRATIC:
+        return of_quadratic(one)
+    return one
+
+
 AT = {at(finest) for finest in range(LEAST_FINEST - 1, MOST_FINEST + 2)}
 
 # Of starts and paths
 
-AT_REACH, BY_FARTHEST = "0 at the reach of F", f"2 by {FARTHEST} alone"
+AT_REACH, BY_FARTHEST = "0 at the reach of F", "2 for any F"
 BEFORE_24 = "14 before 24"
 JOINED, MEASURED = "a join by another F", "another count by another F"
 CURVES = AT | {instead(24, 1), instead(2, 0), instead(3, 0), instead(0, 3),
@@ -52,22 +69,23 @@ CHOICES = {instead("halve", "step"), instead("step", "halve"),
 
 TELLING = {
     "start": CURVES,
+    "start_quadratic": CURVES,
     "halve": PLACES | {instead(6, 0), instead(0, 6)},
     "double": PLACES | {instead(8, 0), instead(0, 8)},
     "step": PLACES,
     "next": PLACES | CHOICES,
-    "draw": PATHS | {JOINED},
-    "measure": PATHS | {MEASURED},
-    "draw_standard": PATHS | {JOINED},
-    "measure_standard": PATHS,
+    "draw": of_both(PATHS | {JOINED}),
+    "measure": of_both(PATHS | {MEASURED}),
+    "draw_standard": of_both(PATHS | {JOINED}),
+    "measure_standard": of_both(PATHS),
     "next_standard": PLACES | CHOICES,
 }
 
 
 # F among the words
 
-FINEST_PLACE = {"start": -2, "draw": 2, "measure": 1, "draw_standard": 2,
-                "measure_standard": 1}
+FINEST_PLACE = {"start": -2, "start_quadratic": -2, "draw": 3, "measure": 2,
+                "draw_standard": 3, "measure_standard": 2}
 
 
 def finest_of(name, words):
@@ -88,7 +106,7 @@ def answer_by(finest, name, words):
 
 def refusal_of(name, words):
     """The first rule that is broken, without 9."""
-    if name == "start":
+    if name in START_DEGREE:
         return answer(name, words)[0]
     name, words = with_limits(name, words)
     path = words[1:] if name == "draw" else words
@@ -97,7 +115,7 @@ def refusal_of(name, words):
 
 def widest_gap(name, words):
     numbers = words[POINTS_START[name]:]
-    if name == "start":
+    if name in START_DEGREE:
         numbers = words[:FINEST_PLACE[name]]
     return max(abs(there - here)
                for here, there in zip(numbers, numbers[POINT_NUMBERS:]))
@@ -112,7 +130,8 @@ def told_by_refusal(name, words):
         yield at(finest)
     if refusal == 14 and not is_finest(finest):
         yield BEFORE_24
-    if refusal == 2 and 3 * widest_gap(name, words) <= 2**finest - 2:
+    if (refusal == 2 and degree_of(name, words) * widest_gap(name, words)
+            <= 2**finest - 2):
         yield BY_FARTHEST
 
 
@@ -122,7 +141,7 @@ def told_by_curve(name, words, numbers):
     finest = finest_of(name, words)
     if numbers[0] == 0:
         yield at(finest)
-        if widest_gap(name, words) == reach(finest):
+        if widest_gap(name, words) == reach(degree_of(name, words), finest):
             yield AT_REACH
         if finest != TAKEN:
             yield from told_by_list(name, words, numbers)
@@ -193,5 +212,6 @@ def told_by_drawing(name, words, numbers):
 def told(name, words, numbers):
     """All that a request tells."""
     if name in FINEST_PLACE:
-        return told_by_curve(name, words, numbers)
+        return [by_degree(name, words, one)
+                for one in told_by_curve(name, words, numbers)]
     return told_by_drawing(name, words, numbers) if name in TELLING else []

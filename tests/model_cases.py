@@ -3,8 +3,9 @@
     python3 tests/model_cases.py
 
 Every expected number was reckoned by hand or is the document's. Beside them,
-random drawings and paths of every finest level are held to the exact curve and
-to what orders 8 and 9 say of them, and listings to those that are proved.
+random drawings and paths of both degrees and every finest level are held to
+the exact curve and to what orders 8, 9 and 10 say of them, and listings to
+those that are proved.
 """
 import random
 import re
@@ -12,29 +13,34 @@ import sys
 
 from above import ROOT
 from boundaries import CASES as BOUNDARIES
-from chance import (FINEST_LEVELS, random_finest, random_level, random_limits,
-                    random_points)
+from chance import (FINEST_LEVELS, random_degree, random_finest, random_level,
+                    random_limits, random_points)
 from document_cases import (CASES, FINEST, LISTING, OLD_SHEET, SHEET,
                             SHEET_NUMBERS)
-from exact_curve import (check_distance, check_lists, check_positions,
-                         check_start)
+from exact_curve import (check_as_cubics, check_distance, check_extremes,
+                         check_lists, check_positions, check_start)
 from finest_cases import CASES as FINEST_CASES
-from makers import (LONGEST, LONGEST_SEGMENTS, number_list, on_x, point, sheet,
-                    straight)
+from makers import (LONGEST, LONGEST_QUADRATICS, LONGEST_SEGMENTS,
+                    MOST_QUADRATICS, cubic, number_list, on_x, point,
+                    quadratic, sheet, straight)
 from model import constants
-from model.constants import (DEGREE, ENTRY_NUMBERS, LEAST, MOST,
+from model.constants import (CUBIC, ENTRY_NUMBERS, LEAST, MOST, QUADRATIC,
                              STANDARD_LIMITS)
 from model.drawing import (DOUBLE, HALVE, STEP, ZEROS, choose, last_position,
                            operate, shown, start)
 from model.listing import listing
-from model.path import draw, length, measure, path_entries
+from model.path import Shape, draw, length, measure, path_entries
 from model.points import Point, flat, numbers_in, points_in
 from model.rules import reach
-from model.sheet import read_sheet, sheet_bytes, write_sheet
+from model.sheet import mark_of, marked, read_sheet, sheet_bytes, write_sheet
 from old_form import BY_HAND, REFUSALS, old_sheet, random_old_sheets
 from outcomes import answered
 from places import COUNT, UPPER, offset, put, swap
 from probe_protocol import request
+from quadratic_cases import CASES as QUADRATICS
+from quadratic_cases import LISTING as QUADRATIC_LISTING
+from quadratic_cases import NUMBERS as QUADRATIC_NUMBERS
+from quadratic_cases import SHEET as QUADRATIC_SHEET
 from spoilt import (FIRST, LISTED_ONLY, ONE, ONE_LIST, ONLY, SECOND,
                     SPOILT_LISTS, SPOILT_SHEETS, TWO)
 from tally import Tally
@@ -51,27 +57,31 @@ def with_x(level, q, *registers, finest=FINEST):
 # The document
 
 NUMBERS = [("POINT_NUMBERS", 3), ("ENTRY_NUMBERS", 4), ("LOWEST", -16_384),
-           ("HIGHEST", 16_383), ("FARTHEST", 682), ("LEAST_FINEST", 6),
+           ("HIGHEST", 16_383), ("FARTHEST", {2: 1_023, 3: 682}),
+           ("DEGREES", (2, 3)), ("QUADRATIC_MARK", 256), ("LEAST_FINEST", 6),
            ("MOST_FINEST", 12), ("SHEET_FINEST", 11),
            ("LEAST", -2_147_483_648), ("MOST", 2_147_483_647),
            ("ONE_UNIT", 65_536), ("STANDARD_LIMITS", (65_536, 32_768)),
-           ("DEGREE", 3), ("MOST_SEGMENTS", 64), ("MOST_PATHS", 1_024),
+           ("MOST_SEGMENTS", 64), ("MOST_PATHS", 1_024),
            ("MOST_BYTES", 32_768)]
 
 
 def check_numbers(tally):
     for name, number in NUMBERS:
         tally.equal(name, getattr(constants, name), number)
-    tally.equal("points of 64 segments", points_in(64), 193)
-    tally.equal("numbers of 64 segments", numbers_in(64), 579)
+    for degree, points, numbers in (CUBIC, 193, 579), (QUADRATIC, 129, 387):
+        tally.equal("points of 64 segments", points_in(degree, 64), points)
+        tally.equal("numbers of 64 segments", numbers_in(degree, 64), numbers)
     tally.equal("ends", [last_position(finest) for finest in FINEST_LEVELS],
                 [64, 128, 256, 512, 1_024, 2_048, 4_096])
-    tally.equal("reaches", [reach(finest) for finest in FINEST_LEVELS],
-                [20, 42, 84, 170, 340, 682, 682])
+    for degree, reaches in (CUBIC, [20, 42, 84, 170, 340, 682, 682]), (
+            QUADRATIC, [31, 63, 127, 255, 511, 1_023, 1_023]):
+        tally.equal("reaches", [reach(degree, finest)
+                                for finest in FINEST_LEVELS], reaches)
 
 
 def check_document(tally):
-    for what, name, words, line in CASES + WIDTHS + FINEST_CASES:
+    for what, name, words, line in CASES + WIDTHS + FINEST_CASES + QUADRATICS:
         tally.equal(f"case {what}, {name}",
                     answered(request(name, words))[0], line)
     tally.equal("the sheet of A", SHEET, ONE)
@@ -88,9 +98,12 @@ def check_boundaries(tally):
 
 PROVED = ROOT / "crates" / "listing_text" / "proofs" / "Example.antt"
 
-SECOND_PATHS = [(4, [(0, -1, 9), (-2, 1, 12), (0, -1, 7), (-2, 0, -3),
-                     (-2, -1, 4), (-2, 0, 0), (-2, -1, -5)]),
-                (2, [(1, 1, 40), (0, 2, 31), (2, 1, 20), (0, 2, 10)])]
+SECOND_PATHS = [cubic(4, [(0, -1, 9), (-2, 1, 12), (0, -1, 7), (-2, 0, -3),
+                          (-2, -1, 4), (-2, 0, 0), (-2, -1, -5)]),
+                cubic(2, [(1, 1, 40), (0, 2, 31), (2, 1, 20), (0, 2, 10)])]
+
+
+OUTLINE = quadratic(0, [(x, 0, 0) for x in (0, 1, 2, 4, 6)])
 
 
 def proved_bytes(name):
@@ -107,6 +120,10 @@ def check_proved(tally):
                 listing(second).encode())
     tally.equal("the proved listing of A", proved_bytes("documentText"),
                 LISTING.encode())
+    outline = sheet_bytes(*STANDARD_LIMITS, [OUTLINE])
+    tally.equal("the outline's sheet", proved_bytes("outlineBytes"), outline)
+    tally.equal("its proved listing", proved_bytes("outlineText"),
+                listing(outline).encode())
 
 
 # Drawings
@@ -147,15 +164,21 @@ def check_edges(tally):
     tally.equal("a new b outside 32 bits", operate(HALVE, made_up),
                 (10, made_up))
     tally.equal("1 before a difference is taken",
-                start(on_x(LEAST, MOST, 0, 0), FINEST, 0), (1, ZEROS))
+                start(CUBIC, on_x(LEAST, MOST, 0, 0), FINEST, 0), (1, ZEROS))
+    tally.equal("1 before a difference of a quadratic",
+                start(QUADRATIC, on_x(LEAST, MOST, 0), FINEST, 0), (1, ZEROS))
 
 
 # Paths
 
 def segment(*numbers):
-    """One segment's numbers: these first, and the last of them again."""
-    more = numbers_in(1) - len(numbers)
+    """One cubic's numbers: these first, and the last of them again."""
+    more = numbers_in(CUBIC, 1) - len(numbers)
     return [*numbers, *[numbers[-1]] * more]
+
+
+def shape(segments, level, finest=FINEST):
+    return Shape(CUBIC, segments, finest, level)
 
 
 def check_paths(tally):
@@ -163,40 +186,40 @@ def check_paths(tally):
     # 3(3S + 1) is 2^32 - 1 for the first, and 2^32 + 8 for the second.
     for segments in (477_218_588, 477_218_589):
         check("3(3S+1) does not wrap round",
-              measure(segments, FINEST, 0, limits, [0] * 8), (14, 0, 0))
-    check("two numbers a point", measure(1, FINEST, 0, limits, [0] * 8),
+              measure(shape(segments, 0), limits, [0] * 8), (14, 0, 0))
+    check("two numbers a point", measure(shape(1, 0), limits, [0] * 8),
           (14, 0, 0))
     for bad in (point(700, 16_384), point(700, 0, 16_384)):
         points = on_x(0, 700, 700, 700, 700, 700, 700)
         points[5] = bad
         check("1 over all points before 2",
-              measure(2, FINEST, 0, limits, flat(points)), (1, 0, 0))
+              measure(shape(2, 0), limits, flat(points)), (1, 0, 0))
     points = [point(x, y) for x, y in
               [(2, 2), (1, 1), (4, 4), (2, 1), (2, 3), (4, 0), (2, 2)]]
-    *_, numbers = draw(100, 2, FINEST, 1, limits, flat(points))
+    *_, numbers = draw(100, shape(2, 1), limits, flat(points))
     check("each segment starts at the path's level",
           numbers[::ENTRY_NUMBERS], [0, 2048, 3072, 4096])
     fives = segment(5)
     whole = flat([position, *fives[:ENTRY_NUMBERS - 1]]
                  for position in (0, 2048))
-    path = 1, FINEST, 0, limits, fives
+    path = shape(1, 0), limits, fives
     check("no room", draw(0, *path), (9, 0, 0, []))
     check("one short", draw(len(whole) - 1, *path), (9, 0, 0, []))
     check("exact", draw(len(whole), *path), (0, 2, 0, whole))
-    _, points = straight(1, 0, (0, 0, 5), (682, 682, -600))
-    check("a long segment", measure(1, FINEST, 0, limits, flat(points)),
+    *_, points = straight(1, 0, (0, 0, 5), (682, 682, -600))
+    check("a long segment", measure(shape(1, 0), limits, flat(points)),
           (0, 2_049, 2_046 * 1_414))
     check("the most points of a sheet's path",
-          measure(64, FINEST, 11, (65_536, 0), [9] * 579), (0, 131_073, 0))
+          measure(shape(64, 11), (65_536, 0), [9] * 579), (0, 131_073, 0))
 
 
 def check_path_order(tally):
-    order = [(14, 0, 5, 12, (0, 0), segment(16_384)),
-             (24, 1, 5, 12, (0, 0), segment(16_384)),
-             (1, 1, 11, 12, (0, 0), segment(16_384, 0)),
-             (2, 1, 11, 12, (0, 0), segment(700, 0)),
-             (3, 1, 11, 12, (0, 0), segment(0)),
-             (4, 1, 11, 0, (0, 0), segment(0))]
+    order = [(14, shape(0, 12, 5), (0, 0), segment(16_384)),
+             (24, shape(1, 12, 5), (0, 0), segment(16_384)),
+             (1, shape(1, 12), (0, 0), segment(16_384, 0)),
+             (2, shape(1, 12), (0, 0), segment(700, 0)),
+             (3, shape(1, 12), (0, 0), segment(0)),
+             (4, shape(1, 0), (0, 0), segment(0))]
     for refusal, *path in order:
         tally.equal(f"{refusal} in its order", measure(*path), (refusal, 0, 0))
         tally.equal(f"{refusal} before 9", draw(0, *path), (refusal, 0, 0, []))
@@ -218,7 +241,7 @@ def check_reading(tally):
     check("cut before a record, its offset wrong",
           put(TWO, wrong)[:SECOND.start], 13)
     check("3 before 15 for the points",
-          put(ONE, (ONLY.segments, 64), (ONLY.level, 12)), 3)
+          put(ONE, (ONLY.segments, 64), (ONLY.mark, 12)), 3)
     check("2 of a record before 1 of the next",
           put(TWO, (FIRST.x(3), 700), (SECOND.x(0), 16_384)), 2)
     check("upper is unsigned", put(ONE, (UPPER, 2**31)), 4)
@@ -245,6 +268,12 @@ def check_longest(tally):
     tally.equal("1,023 paths", len(sheet(*paths)), 32_748)
     tally.equal("1,024 paths do not fit",
                 write_sheet(number_list(*paths, straight(1)), ROOM), (11, b""))
+    for what, paths, size in [("1,024 quadratics", MOST_QUADRATICS, 26_636),
+                              ("46 quadratics", LONGEST_QUADRATICS, 32_768)]:
+        numbers, data = number_list(*paths), sheet(*paths)
+        tally.equal(f"bytes of {what}", len(data), size)
+        tally.equal(f"{what} read", read_sheet(data, ROOM), (0, numbers))
+        tally.equal(f"{what} written", write_sheet(numbers, ROOM), (0, data))
 
 
 def check_writing(tally):
@@ -260,7 +289,7 @@ def check_writing(tally):
           number_list(*[big] * 60, straight(1, 12)), 3)
     check("3(3S+1) is not reckoned",
           swap(ONE_LIST, (LISTED_ONLY.segments, MOST)), 14)
-    check("a negative level", swap(ONE_LIST, (LISTED_ONLY.level, -1)), 3)
+    check("a negative level", swap(ONE_LIST, (LISTED_ONLY.mark, -1)), 3)
     check("a coordinate is not cut to 16 bits",
           swap(ONE_LIST, (LISTED_ONLY.x(0), 65_536)), 1)
     check("a width is not cut to 16 bits",
@@ -290,18 +319,19 @@ def places_of(entries):
 def check_widths(tally):
     """Of random paths: what their widths change, and what they do not."""
     chance = random.Random(8)
-    for _ in range(60):
-        finest = random_finest(chance)
-        number = points_in(chance.randint(1, 3))
+    for _ in range(90):
+        degree, finest = random_degree(chance), random_finest(chance)
+        segments = chance.randint(1, 3)
         points = [Point(*each) for each in
-                  random_points(chance, number, finest)]
-        path = finest, random_level(chance, finest), *random_limits(chance)
-        entries = path_entries(points, *path)
+                  random_points(chance, degree, segments, finest)]
+        path = (Shape(degree, segments, finest, random_level(chance, finest)),
+                random_limits(chance))
+        entries = path_entries(*path, points)
         joins = [tuple(entry[1:]) for entry in entries
                  if entry.position % last_position(finest) == 0]
-        tally.equal(f"the joins of {points}", joins, points[::DEGREE])
+        tally.equal(f"the joins of {points}", joins, points[::degree])
         still = [each._replace(width=0) for each in points]
-        without = path_entries(still, *path)
+        without = path_entries(*path, still)
         tally.equal(f"the places of {points}", places_of(entries),
                     places_of(without))
         tally.equal(f"the length of {points}", length(entries),
@@ -327,13 +357,32 @@ def check_old_form(tally):
                 (0, [0, *STANDARD_LIMITS]))
 
 
+# Order 10
+
+MARKS = [(255, CUBIC, 255), (256, QUADRATIC, 0), (267, QUADRATIC, 11),
+         (268, QUADRATIC, 12), (511, QUADRATIC, 255), (512, QUADRATIC, 256),
+         (65_535, QUADRATIC, 65_279), (0, CUBIC, 0), (12, CUBIC, 12)]
+
+
+def check_marks(tally):
+    for mark, degree, level in MARKS:
+        tally.equal(f"mark {mark}", marked(mark), (degree, level))
+        tally.equal(f"level {level} marked", mark_of(degree, level), mark)
+    tally.equal("the sheet of Q", QUADRATIC_SHEET,
+                sheet(straight(1, degree=QUADRATIC)))
+    tally.equal("its numbers", read_sheet(QUADRATIC_SHEET, ROOM),
+                (0, QUADRATIC_NUMBERS))
+    tally.equal("its listing", listing(QUADRATIC_SHEET), QUADRATIC_LISTING)
+
+
 def main():
     tally = Tally()
     for check in (check_numbers, check_document, check_boundaries,
                   check_proved, check_choosing, check_edges, check_start,
                   check_paths, check_path_order, check_reading, check_longest,
-                  check_writing, check_spoilt, check_distance, check_lists,
-                  check_positions, check_widths, check_old_form):
+                  check_writing, check_spoilt, check_distance,
+                  check_extremes, check_lists, check_positions,
+                  check_as_cubics, check_widths, check_old_form, check_marks):
         check(tally)
     sys.exit(tally.end())
 

@@ -1,24 +1,24 @@
 """Sheets of the old form, as document 01 has it: a point is x and y alone.
 
-A path is (level, points), and a point (x, y). With any path in it such a
-sheet is always refused: by its segments a record is longer than it is there.
-One path runs past the end, 15. With more of them points may be read that are
-none, 2; else offset 1 is wrong, 13, or the first record runs past the end.
+A path is (level, points), always of cubics, and a point (x, y). With any path
+in it such a sheet is always refused: by its segments a record is longer than
+it is there. One path runs past the end, 15. With more of them points may be
+read that are none, 2; else offset 1 is wrong, 13, or the first record runs past
+the end. A mark of 256 and more has no place there: levels are at most 11.
 """
 import random
 from struct import pack
 
 from chance import clamped, random_level, random_limits
-from model.constants import (DEGREE, FARTHEST, HIGHEST, LOWEST, MOST_SEGMENTS,
+from model.constants import (CUBIC, FARTHEST, HIGHEST, LOWEST, MOST_SEGMENTS,
                              SHEET_FINEST, STANDARD_LIMITS)
-from model.points import points_in
+from model.points import points_in, segments_of
 
 REFUSALS = {2, 13, 15}
 
 
 def old_record(level, points):
-    segments = (len(points) - 1) // DEGREE
-    return (pack("<HH", segments, level)
+    return (pack("<HH", segments_of(CUBIC, points), level)
             + b"".join(pack("<hh", *point) for point in points))
 
 
@@ -37,11 +37,11 @@ def old_sheet(upper, lower, paths):
 def old_path(chance):
     """A walk that document 01 accepts."""
     segments = chance.choice([1, 1, 2, 3, 5, MOST_SEGMENTS])
-    far = chance.choice([0, 1, 3, 100, FARTHEST])
+    far = chance.choice([0, 1, 3, 100, FARTHEST[CUBIC]])
     end = chance.choice([10, 300, HIGHEST])
     here = chance.randint(-end, end), chance.randint(-end, end)
     points = []
-    for _ in range(points_in(segments)):
+    for _ in range(points_in(CUBIC, segments)):
         points.append(here)
         here = tuple(clamped(value + chance.randint(-far, far), LOWEST,
                              HIGHEST) for value in here)
@@ -60,7 +60,7 @@ def random_old_sheets(seed, number):
 # By hand: (refusal, sheet)
 
 def still(segments, *place, level=0):
-    return level, [place] * points_in(segments)
+    return level, [place] * points_in(CUBIC, segments)
 
 
 def standard(*paths):

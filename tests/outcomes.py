@@ -3,18 +3,20 @@
 OUTCOMES has what has to come out of many requests at least once, by the name
 of the entry: refusals (0 for none), and where that says too little, words. A
 request has one such outcome, and beside it those by which it tells of its
-finest level, which misread.py has.
+finest level and of its degree: misread.py and misread_degree.py have them.
 """
 from itertools import combinations
 
-from misread import (BETWEEN, LEVEL, PAST, TELLING, is_refused_for_finest,
-                     place_fault, refusal_of, told)
+import misread
+import misread_degree
+from misread import (BETWEEN, LEVEL, PAST, by_degree, is_refused_for_finest,
+                     of_quadratic, place_fault, refusal_of)
 from model.constants import POINT_NUMBERS
 from model.drawing import DOUBLE, HALVE, STEP, STILL, choose, registers_of
 from model.rules import is_finest
 from probe_model import OPERATION_NAMES, answer, with_limits
-from probe_protocol import (BAD, DRAWING_WORDS, POINTS_START, drawing_of,
-                            fault_of, line, taken, words_of)
+from probe_protocol import (BAD, DEGREE_PLACE, DRAWING_WORDS, POINTS_START,
+                            drawing_of, fault_of, line, taken, words_of)
 from spoilt import READ_REFUSALS, WRITE_REFUSALS
 
 OF_FINEST, BESIDE = "10 by its finest level alone", "10 by F and more"
@@ -27,6 +29,7 @@ CHOSEN = {"halve", "double", "step", "double past the width",
           "step past the width"}
 RULES = {
     "start": {0, 24, 3} | POINTS,
+    "start_quadratic": {0, 24, 3} | POINTS,
     "halve": {0, 6} | PLACE | REGISTERS,
     "double": {0, 7, 8} | PLACE | REGISTERS,
     "step": {0} | PLACE | REGISTERS,
@@ -40,9 +43,14 @@ RULES = {
     "measure_standard": {0, 14, 24, 3} | POINTS,
     "next_standard": PLACE | CHOSEN,
     BAD: {"unknown code", "wrong count", "count out of range",
-          "room out of range", "cut off"},
+          "room out of range", "no degree", "cut off"},
 }
-OUTCOMES = {name: wanted | TELLING.get(name, set())
+QUADRATICS = {name: set(map(of_quadratic, RULES[name]))
+              for name in DEGREE_PLACE}
+TOLD = {"its finest level": misread.TELLING,
+        "its degree": misread_degree.TELLING}
+OUTCOMES = {name: wanted.union(*(each.get(name, set())
+                                 for each in [QUADRATICS, *TOLD.values()]))
             for name, wanted in RULES.items()}
 
 
@@ -88,7 +96,7 @@ def choice_outcome(name, words, choice):
 
 
 def outcome(name, words, numbers):
-    """What came out, as it is called in RULES."""
+    """What came out, as it is called in RULES; of a quadratic path too."""
     refusal = numbers[0]
     if name == "shown":
         return 0 if is_finest(drawing_of(words).finest) else NO_FINEST
@@ -108,7 +116,9 @@ def answered(request):
         return BAD, [(BAD, fault)]
     name, words = taken(request)
     numbers = answer(name, words)
-    ones = [outcome(name, words, numbers), *told(name, words, numbers)]
+    ones = [by_degree(name, words, outcome(name, words, numbers)),
+            *misread.told(name, words, numbers),
+            *misread_degree.told(name, words, numbers)]
     return line(numbers), [(name, one) for one in ones]
 
 

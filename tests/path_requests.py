@@ -1,10 +1,11 @@
 """Argument words for the probe's requests of paths, made by chance."""
-from chance import clamped, one_in, random_finest, random_limits
-from drawing_requests import (BAD_LIMITS, random_numbers, set_gap,
-                              spoil_coordinate)
+from chance import (clamped, one_in, other_degree, random_degree,
+                    random_finest, random_limits, random_points)
+from drawing_requests import BAD_LIMITS, set_gap, spoil_coordinate
 from finest_requests import bad_finest, bad_level, good_level
 from model.constants import ENTRY_NUMBERS, MOST_SEGMENTS, STANDARD_LIMITS
-from model.path import measure
+from model.path import Shape, measure
+from model.points import flat
 from probe_protocol import MOST_ROOM
 from spoilt import wraps
 
@@ -16,23 +17,30 @@ class Path:
     """A path as a request has it: any numbers."""
 
     def __init__(self, chance):
+        self.degree = random_degree(chance)
         self.segments = chance.choice([1, 1, 1, 1, 2, 2, 3, 5])
         if one_in(chance, 150):
             self.segments = MOST_SEGMENTS
         self.finest = self.good = random_finest(chance)
         self.level = good_level(chance, self.finest)
         self.limits = random_limits(chance)
-        self.numbers = random_numbers(chance, self.segments, self.finest)
+        self.numbers = flat(random_points(chance, self.degree, self.segments,
+                                          self.finest))
 
     def spoil(self, chance):
         """One fault, of every kind that a path is refused for."""
         spoil = chance.choice([self.spoil_segments, self.resize,
+                               self.change_degree,
                                self.spoil_coordinate, self.spoil_coordinate,
                                self.spoil_gap, self.spoil_gap,
                                self.spoil_level, self.spoil_level,
                                self.spoil_finest, self.spoil_finest,
                                self.spoil_limits])
         spoil(chance)
+
+    def change_degree(self, _):
+        """The points are those of the other degree."""
+        self.degree = other_degree(self.degree)
 
     def spoil_segments(self, chance):
         self.segments = chance.choice([self.segments + 1,
@@ -42,7 +50,7 @@ class Path:
         spoil_coordinate(chance, self.numbers)
 
     def spoil_gap(self, chance):
-        set_gap(chance, self.numbers, self.good)
+        set_gap(chance, self.numbers, self.degree, self.good)
 
     def spoil_level(self, chance):
         self.level = bad_level(chance, self.good)
@@ -62,7 +70,7 @@ class Path:
             self.numbers += [0] * chance.choice([1, 2, 3, 9, 12])
         else:
             less = chance.choice([1, 2, 3, 4, 8])
-            self.numbers = self.numbers[:-less]
+            self.numbers = self.numbers[:max(len(self.numbers) - less, 4)]
 
     def room(self, chance):
         """Mostly small or exact for the list; seldom the most there is."""
@@ -70,17 +78,18 @@ class Path:
             return MOST_ROOM
         if one_in(chance, 5):
             return chance.choice([0, 1, 7, 8, 20, chance.randrange(100)])
-        _, points, _ = measure(self.segments, self.finest, self.level,
-                               self.limits, self.numbers)
+        _, points, _ = measure(self.shape(), self.limits, self.numbers)
         more = chance.choice([0, 0, 0, 1, 20, 100, -1, -4, -5])
         return clamped(ENTRY_NUMBERS * points + more, 0, MOST_ROOM)
 
+    def shape(self):
+        return Shape(self.degree, self.segments, self.finest, self.level)
+
     def words(self):
-        return [self.segments, self.finest, self.level, *self.limits,
-                *self.numbers]
+        return [*self.shape(), *self.limits, *self.numbers]
 
     def words_without_limits(self):
-        return [self.segments, self.finest, self.level, *self.numbers]
+        return [*self.shape(), *self.numbers]
 
 
 def make_path(chance):

@@ -6,7 +6,6 @@ in the list is an index.
 import struct
 
 from model.constants import POINT_NUMBERS
-from model.points import numbers_in, segments_of
 from model.sheet import HEADER_NUMBERS, records_start
 
 COUNT, UPPER, LOWER = (0, "I"), (4, "I"), (8, "I")
@@ -20,9 +19,9 @@ def offset(k):
 class PathPlaces:
     """Where one path starts and ends, and the places of its numbers."""
 
-    def __init__(self, start, end, segments, level, numbers):
+    def __init__(self, start, end, segments, mark, numbers):
         self.start, self.end = start, end
-        self.segments, self.level, self.numbers = segments, level, numbers
+        self.segments, self.mark, self.numbers = segments, mark, numbers
 
     def x(self, point):
         return self.numbers[POINT_NUMBERS * point]
@@ -37,8 +36,8 @@ class PathPlaces:
 def record_places(paths):
     """The places of each path in the sheet's bytes."""
     places, start = [], records_start(len(paths))
-    for _, points in paths:
-        end = start + 4 + 2 * numbers_in(segments_of(points))
+    for path in paths:
+        end = start + 4 + 2 * POINT_NUMBERS * len(path.points)
         numbers = [(first, "h") for first in range(start + 4, end, 2)]
         places.append(PathPlaces(start, end, (start, "H"), (start + 2, "H"),
                                  numbers))
@@ -49,8 +48,8 @@ def record_places(paths):
 def listed_places(paths):
     """The places of each path in the sheet's number list."""
     places, start = [], HEADER_NUMBERS
-    for _, points in paths:
-        end = start + 2 + numbers_in(segments_of(points))
+    for path in paths:
+        end = start + 2 + POINT_NUMBERS * len(path.points)
         places.append(PathPlaces(start, end, start, start + 1,
                                  range(start + 2, end)))
         start = end

@@ -1,22 +1,22 @@
 """What the program `probe` has to answer to a request, by the model."""
 from model.constants import STANDARD_LIMITS
 from model.drawing import DOUBLE, HALVE, STEP, choose, operate, shown, start
-from model.path import draw, measure
+from model.path import Shape, draw, measure
 from model.points import points_of
 from model.sheet import read_sheet, write_sheet
-from probe_protocol import (DRAWING_WORDS, POINTS_START, UNUSED_BYTE,
-                            UNUSED_NUMBER, drawing_of, lent, unsigned,
-                            words_of)
+from probe_protocol import (DRAWING_WORDS, POINTS_START, START_DEGREE,
+                            UNUSED_BYTE, UNUSED_NUMBER, drawing_of, lent,
+                            unsigned, words_of)
 
 OPERATION_NAMES = "halve", "double", "step"     # 0, 1, 2, as choosing says
 
 
 # The entries: argument words in, numbers of the answer out
 
-def answer_start(words):
+def answer_start(name, words):
     *numbers, finest, level = words
-    refusal, drawing = start(points_of(numbers), unsigned(finest),
-                             unsigned(level))
+    refusal, drawing = start(START_DEGREE[name], points_of(numbers),
+                             unsigned(finest), unsigned(level))
     return [refusal] + words_of(drawing)
 
 
@@ -31,9 +31,10 @@ def answer_next(words):
 
 
 def path_of(words):
-    """A path as the model takes it: its limits are one argument."""
-    segments, finest, level, upper, lower, *numbers = words
-    return (unsigned(segments), unsigned(finest), unsigned(level),
+    """A path as the model takes it: its shape, its limits, its numbers."""
+    degree, segments, finest, level, upper, lower, *numbers = words
+    return (Shape(degree, unsigned(segments), unsigned(finest),
+                  unsigned(level)),
             (unsigned(upper), unsigned(lower)), numbers)
 
 
@@ -61,7 +62,7 @@ def answer_write(words):
 
 
 ENTRIES = {
-    "start": answer_start,
+    "start": lambda words: answer_start("start", words),
     "halve": lambda words: answer_operation(HALVE, words),
     "double": lambda words: answer_operation(DOUBLE, words),
     "step": lambda words: answer_operation(STEP, words),
@@ -71,6 +72,7 @@ ENTRIES = {
     "measure": answer_measure,
     "read": answer_read,
     "write": answer_write,
+    "start_quadratic": lambda words: answer_start("start_quadratic", words),
 }
 
 # The entries without limits: which one each of them is, and where its limits

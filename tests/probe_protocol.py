@@ -11,21 +11,22 @@ an unsigned number is the same 32 bits.
      4 step            drawing                               refusal drawing
      5 next            drawing upper lower                   refusal operation
      6 shown           drawing                               x y width
-     7 draw            room segments finest level            refusal points
+     7 draw            room degree segments finest level     refusal points
                        upper lower points                    length list
-     8 measure         segments finest level                 refusal points
+     8 measure         degree segments finest level          refusal points
                        upper lower points                    length
      9 read            room byte...                          refusal count list
     10 write           room number...                        refusal count bytes
     11 draw_standard     as 7, without upper and lower
     12 measure_standard  as 8, without upper and lower
     13 next_standard     as 5, without upper and lower
+    14 start_quadratic   as 1
 
-Points are x, y and width of each; a start has four. A drawing is finest,
-level, q, then a b c d of x, of y and of the width. The list and the bytes are
-the first `room` of a lent buffer after the call; the buffer holds -7 (a list)
-or 7 (bytes) in every place before it. The operations that are answered are
-0 halve, 1 double, 2 step.
+Points are x, y and width of each; a start has four, of a quadratic three. A
+degree is 2 or 3. A drawing is finest, level, q, then a b c d of x, of y and of
+the width. The list and the bytes are the first `room` of a lent buffer after
+the call; the buffer holds -7 (a list) or 7 (bytes) in every place before it.
+The operations that are answered are 0 halve, 1 double, 2 step.
 
 Any other request is answered by "bad request". Its words are passed over;
 after a count out of range nothing is, so the next request starts there. A
@@ -33,7 +34,7 @@ request that the end of the input cuts off is a bad one, and the last.
 """
 import struct
 
-from model.constants import POINT_NUMBERS
+from model.constants import CUBIC, DEGREES, POINT_NUMBERS, QUADRATIC
 from model.drawing import STILL, Drawing, registers_of
 from model.points import flat, numbers_in
 
@@ -44,17 +45,23 @@ BAD = "bad request"
 
 CODES = {"start": 1, "halve": 2, "double": 3, "step": 4, "next": 5,
          "shown": 6, "draw": 7, "measure": 8, "read": 9, "write": 10,
-         "draw_standard": 11, "measure_standard": 12, "next_standard": 13}
+         "draw_standard": 11, "measure_standard": 12, "next_standard": 13,
+         "start_quadratic": 14}
 NAMES = {code: name for name, code in CODES.items()}
 
 REGISTER_WORDS = len(STILL) * POINT_NUMBERS
 DRAWING_WORDS = 3 + REGISTER_WORDS
-POINTS_START = {"start": 0, "draw": 6, "measure": 5, "draw_standard": 4,
-                "measure_standard": 3}
-EXACT_WORDS = {"start": numbers_in(1) + 2, "halve": DRAWING_WORDS,
-               "double": DRAWING_WORDS, "step": DRAWING_WORDS,
-               "next": DRAWING_WORDS + 2, "shown": DRAWING_WORDS,
-               "next_standard": DRAWING_WORDS}
+START_DEGREE = {"start": CUBIC, "start_quadratic": QUADRATIC}
+START_NAMES = {degree: name for name, degree in START_DEGREE.items()}
+DEGREE_PLACE = {"draw": 1, "measure": 0, "draw_standard": 1,
+                "measure_standard": 0}
+POINTS_START = {"start": 0, "draw": 7, "measure": 6, "draw_standard": 5,
+                "measure_standard": 4, "start_quadratic": 0}
+EXACT_WORDS = {"halve": DRAWING_WORDS, "double": DRAWING_WORDS,
+               "step": DRAWING_WORDS, "next": DRAWING_WORDS + 2,
+               "shown": DRAWING_WORDS, "next_standard": DRAWING_WORDS,
+               **{name: numbers_in(degree, 1) + 2
+                  for name, degree in START_DEGREE.items()}}
 LEAST_WORDS = {"read": 1, "write": 1, **POINTS_START}
 WITH_ROOM = {"draw", "read", "write", "draw_standard"}
 
@@ -122,7 +129,16 @@ def fault_of(data):
         return "wrong count"
     if name in WITH_ROOM and not 0 <= arguments[0] <= MOST_ROOM:
         return "room out of range"
+    if name in DEGREE_PLACE and degree_of(name, arguments) not in DEGREES:
+        return "no degree"
     return None
+
+
+def degree_of(name, words):
+    """Of a start or of a path."""
+    if name in START_DEGREE:
+        return START_DEGREE[name]
+    return words[DEGREE_PLACE[name]]
 
 
 def taken(data):

@@ -8,17 +8,18 @@ import random
 from chance import one_in
 from drawing_requests import (any_drawing, any_words, make_next,
                               make_operation, make_start)
-from model.constants import LEAST, MOST, SHEET_FINEST, STANDARD_LIMITS
+from model.constants import (CUBIC, LEAST, MOST, QUADRATIC, SHEET_FINEST,
+                             STANDARD_LIMITS)
 from model.points import numbers_in
 from path_requests import (make_draw, make_draw_standard, make_measure,
                            make_measure_standard)
-from probe_protocol import (CODES, EXACT_WORDS, LEAST_WORDS, MOST_ROOM,
-                            MOST_WORDS, NAMES, WITH_ROOM, packed, raw_request,
-                            request)
+from probe_protocol import (CODES, DEGREE_PLACE, EXACT_WORDS, LEAST_WORDS,
+                            MOST_ROOM, MOST_WORDS, NAMES, WITH_ROOM, packed,
+                            raw_request, request)
 from sheet_requests import make_read, make_write
 
 MAKERS = {
-    "start": make_start,
+    "start": lambda chance: make_start(chance, CUBIC),
     "halve": lambda chance: make_operation(chance, "halve"),
     "double": lambda chance: make_operation(chance, "double"),
     "step": lambda chance: make_operation(chance, "step"),
@@ -31,6 +32,7 @@ MAKERS = {
     "draw_standard": make_draw_standard,
     "measure_standard": make_measure_standard,
     "next_standard": any_drawing,
+    "start_quadratic": lambda chance: make_start(chance, QUADRATIC),
 }
 
 
@@ -70,9 +72,18 @@ def room_out_of_range(chance):
     return request(name, words)
 
 
+def no_degree(chance):
+    name = chance.choice(sorted(DEGREE_PLACE))
+    words = MAKERS[name](chance)
+    words[DEGREE_PLACE[name]] = chance.choice([0, 1, 4, 5, -1, -2, -3, 258,
+                                               2**16 + 3, MOST, LEAST,
+                                               LEAST + 2])
+    return request(name, words)
+
+
 def bad_request(chance):
     maker = chance.choice([unknown_code, wrong_count, count_out_of_range,
-                           room_out_of_range])
+                           room_out_of_range, no_degree])
     return maker(chance)
 
 
@@ -107,7 +118,8 @@ def make_requests(chance, number):
 def limit_requests():
     """As many words, and as much room, as a request may have."""
     numbers = [0] * (MOST_WORDS - 1)
-    still = [1, SHEET_FINEST, 0, *STANDARD_LIMITS, *[5] * numbers_in(1)]
+    still = [QUADRATIC, 1, SHEET_FINEST, 0, *STANDARD_LIMITS,
+             *[5] * numbers_in(QUADRATIC, 1)]
     return [request("write", [0, *numbers]),
             request("draw", [MOST_ROOM, *still])]
 

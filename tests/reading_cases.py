@@ -86,10 +86,9 @@ def add_records(read):
                      32_768, 65_535):
         read(14, put(TWO, (FIRST.segments, segments)))
         read(14, put(TWO, (SECOND.segments, segments)))
-    for level in (SHEET_FINEST + 1, SHEET_FINEST + 2, 255, 256, 32_768,
-                  65_535):
-        read(3, put(TWO, (FIRST.level, level)))
-        read(3, put(TWO, (SECOND.level, level)))
+    for level in (SHEET_FINEST + 1, SHEET_FINEST + 2, 255, 32_768, 65_535):
+        read(3, put(TWO, (FIRST.mark, level)))
+        read(3, put(TWO, (SECOND.mark, level)))
     # 15: cut at every byte; 16: more bytes.
     for size in range(len(TWO)):
         expected = 11 if size < 12 else 12 if size < FIRST.start else 15
@@ -129,14 +128,14 @@ def add_order(read):
     # 15 for the first four bytes before 14 and 3.
     read(15, put(ONE, (ONLY.segments, 0))[:ONLY.start + 2])
     read(15, put(ONE, (ONLY.segments, MOST_SEGMENTS + 1),
-                 (ONLY.level, SHEET_FINEST + 1))[:ONLY.start + 3])
+                 (ONLY.mark, SHEET_FINEST + 1))[:ONLY.start + 3])
     # 14 before 3, and before 15 for the points.
-    read(14, put(ONE, (ONLY.segments, 0), (ONLY.level, SHEET_FINEST + 1)))
+    read(14, put(ONE, (ONLY.segments, 0), (ONLY.mark, SHEET_FINEST + 1)))
     read(14, put(ONE, (ONLY.segments, MOST_SEGMENTS + 1)))
     # 3 before 15 for the points: 64 segments, level 12, cut.
     read(3, put(ONE, (ONLY.segments, MOST_SEGMENTS),
-                (ONLY.level, SHEET_FINEST + 1)))
-    read(3, put(ONE, (ONLY.level, SHEET_FINEST + 1))[:ONLY.start + 4])
+                (ONLY.mark, SHEET_FINEST + 1)))
+    read(3, put(ONE, (ONLY.mark, SHEET_FINEST + 1))[:ONLY.start + 4])
     # 15 for the points before 1 and 2.
     read(15, put(ONE, (ONLY.x(0), FAR))[:-1])
     read(15, put(ONE, (ONLY.x(1), GAP))[:-1])
@@ -158,7 +157,7 @@ def add_order(read):
 def faults(k, record, gap):
     """A fault of record k for each refusal."""
     return {13: (offset(k), record.start + 1), 14: (record.segments, 0),
-            3: (record.level, SHEET_FINEST + 1),
+            3: (record.mark, SHEET_FINEST + 1),
             15: (record.segments, MOST_SEGMENTS), 1: (record.x(0), FAR),
             2: (record.x(3), gap)}
 

@@ -14,20 +14,22 @@ model has to agree with it.
 import random
 from collections import Counter
 
+import mark_cases
 import reading_cases
 import writing_cases
 from chance import (CORNERS, damage, random_sheet, strange_byte,
                     strange_number)
 from document_cases import SHEET, SHEET_NUMBERS
-from makers import (LEVELS, LONGEST_SEGMENTS, MANY, jump, number_list,
+from makers import (LEVELS, LONGEST_SEGMENTS, MANY, cubic, jump, number_list,
                     on_width, point, sheet, straight, zigzag)
-from model.constants import (FARTHEST, HIGHEST, LOWEST, MOST_BYTES,
-                             MOST_SEGMENTS, ONE_UNIT, SHEET_FINEST,
-                             STANDARD_LIMITS)
+from model.constants import (CUBIC, DEGREES, FARTHEST, HIGHEST, LOWEST,
+                             MOST_BYTES, MOST_SEGMENTS, ONE_UNIT, QUADRATIC,
+                             SHEET_FINEST, STANDARD_LIMITS)
 from model.sheet import read_sheet, sheet_bytes, sheet_numbers, write_sheet
 from places import LISTED_COUNT, swap
 from probe_protocol import UNUSED_BYTE, UNUSED_NUMBER, lent, line, packed
-from spoilt import BENT, ONE, ONE_LIST, PAIR, READ_REFUSALS, WRITE_REFUSALS
+from spoilt import (BENT, CURVED, ONE, ONE_LIST, PAIR, READ_REFUSALS,
+                    WRITE_REFUSALS)
 
 READ, WRITE = 1, 2
 MOST_ROOM = 33_000          # and the most bytes to read
@@ -98,14 +100,20 @@ def good_sheets():
     yield 3, 2, several
     yield ONE_UNIT, 1, several[::-1]
     yield 255, 254, PAIR
-    yield ONE_UNIT - 1, 257, [straight(1, level) for level in range(LEVELS)]
+    for degree in DEGREES:
+        yield ONE_UNIT - 1, 257, [straight(1, level, degree=degree)
+                                  for level in range(LEVELS)]
+    yield 4, 3, [CURVED]
+    yield 65_280, 256, [CURVED, BENT,
+                        straight(MOST_SEGMENTS, 9, degree=QUADRATIC),
+                        straight(2, 2, (5, 5, 5), (0, -1)), CURVED]
     # Coordinates at both ends, each way round.
     for ends in CORNERS:
         yield (*STANDARD_LIMITS, [straight(2, 4, ends, (0, 0))])
     # Neighbours exactly as far apart as they may be.
     for ways in [(1, 0, 0), (0, 1, 0), (0, 0, 1), (1, 1, -1), (-1, 1, 1),
                  (1, -1, 1), (0, 0, -1)]:
-        yield (*STANDARD_LIMITS, [zigzag(2, 0, *[FARTHEST * way
+        yield (*STANDARD_LIMITS, [zigzag(2, 0, *[FARTHEST[CUBIC] * way
                                                  for way in ways])])
     yield (*STANDARD_LIMITS, [straight(16, 0, (LOWEST, HIGHEST, LOWEST),
                                        (668, -668, 667))])
@@ -131,12 +139,13 @@ def add_neighbours(cases):
     for after in range(6):
         for ways in [(1, 0, 0), (-1, 0, 0), (0, 1, 0), (0, -1, 0), (0, 0, 1),
                      (0, 0, -1)]:
-            for expected, gap in [(0, FARTHEST), (2, FARTHEST + 1)]:
+            for expected, gap in [(0, FARTHEST[CUBIC]),
+                                  (2, FARTHEST[CUBIC] + 1)]:
                 cases.both(expected, jump(2, after, *[gap * way
                                                       for way in ways]))
     # The widest gap there is; and paths have no neighbours in other paths.
-    cases.both(2, (0, [point(LOWEST), point(HIGHEST), point(), point()]))
-    cases.both(2, (0, on_width(0, 0, LOWEST, HIGHEST, 0, 0)))
+    cases.both(2, cubic(0, [point(LOWEST), point(HIGHEST), point(), point()]))
+    cases.both(2, cubic(0, on_width(0, 0, LOWEST, HIGHEST, 0, 0)))
     cases.both(0, *[straight(1, 0, (end, end, end), (0, 0))
                     for end in (LOWEST, HIGHEST)])
 
@@ -165,7 +174,7 @@ def add_large(cases):
     one_more = swap(listed, (LISTED_COUNT, len(parts) + 1))
     cases.write(3, one_more + [1, SHEET_FINEST + 1], MOST_ROOM)
     # As many paths as there is room for, and as many as may be counted, which
-    # are too large: 32,780 bytes.
+    # are too large where they are cubics: 32,780 bytes.
     cases.read(0, sheet(*MANY), MOST_ROOM)
     cases.write(0, number_list(*MANY), MOST_ROOM)
     assert len(sheet(*MANY, straight(1))) == 32_780
@@ -199,6 +208,7 @@ def make_cases():
         add(cases)
     reading_cases.add_all(cases.read)
     writing_cases.add_all(cases.write)
+    mark_cases.add_all(cases)
     add_random(cases)
     for code, wanted in ((READ, READ_REFUSALS), (WRITE, WRITE_REFUSALS)):
         met = {number for used, number in cases.tally if used == code}

@@ -21,10 +21,11 @@ from model.points import flat
 from outcomes import RULES, answered, missing
 from probe_protocol import packed, request
 from probe_requests import limit_requests, make_requests
+from quadratic_cases import CASES as QUADRATICS
 from sheet_cases import make_cases
 from width_cases import CASES as WIDTHS
 
-EACH, TELLING = 8, 2    # requests of each outcome, and of one that tells F
+EACH, TELLING = 8, 2    # requests of each rule, and of what else is told
 SMALL = 5_000           # bytes of a request and its answer
 TRIED = 4_000           # requests that they are picked from
 LARGE = {("write", 11)}  # outcomes that no small request has
@@ -36,12 +37,12 @@ def joined(lines):
     return "".join(line + "\n" for line in lines).encode()
 
 
-# The probe: the document's cases, those of orders 8 and 9, the boundaries, and
-# a few requests of each outcome
+# The probe: the document's cases, those of orders 8, 9 and 10, the boundaries,
+# and a few requests of each outcome
 
 def case_requests():
     requests = []
-    for what, name, words, line in CASES + WIDTHS + FINEST:
+    for what, name, words, line in CASES + WIDTHS + FINEST + QUADRATICS:
         requests.append(request(name, words))
         assert answered(requests[-1])[0] == line, what
     return requests

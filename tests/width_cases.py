@@ -4,6 +4,7 @@ CASES has (what is tried, name of the request, argument words, answer line).
 """
 from document_cases import FINEST, LIMITS
 from makers import on_width
+from model.constants import CUBIC
 from model.points import flat
 from probe_protocol import line
 
@@ -11,7 +12,8 @@ from probe_protocol import line
 def drawn(what, level, segments, points, entries, length):
     """A path drawn with as much room as it needs."""
     numbers = flat(entries)
-    words = [len(numbers), segments, FINEST, level, *LIMITS, *flat(points)]
+    words = [len(numbers), CUBIC, segments, FINEST, level, *LIMITS,
+             *flat(points)]
     return what, "draw", words, line([0, len(entries), length, *numbers])
 
 

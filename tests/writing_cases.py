@@ -51,10 +51,10 @@ def add_heads(write):
                      wraps(33) + 1, MOST, LEAST):
         write(14, swap(TWO_LIST, (LISTED_FIRST.segments, segments)))
         write(14, swap(TWO_LIST, (LISTED_SECOND.segments, segments)))
-    for level in (SHEET_FINEST + 1, -1, -SHEET_FINEST, 256, 65_535, 65_536,
+    for level in (SHEET_FINEST + 1, -1, -SHEET_FINEST, 255, 65_535, 65_536,
                   65_536 + 3, MOST, LEAST):
-        write(3, swap(TWO_LIST, (LISTED_FIRST.level, level)))
-        write(3, swap(TWO_LIST, (LISTED_SECOND.level, level)))
+        write(3, swap(TWO_LIST, (LISTED_FIRST.mark, level)))
+        write(3, swap(TWO_LIST, (LISTED_SECOND.mark, level)))
     # More segments than numbers, or fewer.
     for segments in (2, 3, MOST_SEGMENTS):
         write(17, swap(TWO_LIST, (LISTED_SECOND.segments, segments)))
@@ -107,12 +107,12 @@ def add_order(write):
     write(17, [1, *STANDARD_LIMITS, -1])
     # 14 before 3, and before 17 for the points.
     write(14, swap(ONE_LIST, (path.segments, 0),
-                   (path.level, SHEET_FINEST + 1)))
+                   (path.mark, SHEET_FINEST + 1)))
     write(14, [1, *STANDARD_LIMITS, MOST_SEGMENTS + 1, 0])
     write(14, [1, *STANDARD_LIMITS, -1, -1])
     # 3 before 17 for the points.
     write(3, [1, *STANDARD_LIMITS, MOST_SEGMENTS, SHEET_FINEST + 1])
-    write(3, swap(ONE_LIST, (path.level, -1))[:-1])
+    write(3, swap(ONE_LIST, (path.mark, -1))[:-1])
     # 17 for the points before 1 and 2.
     write(17, swap(ONE_LIST, (path.x(0), FAR))[:-1])
     write(17, swap(ONE_LIST, (path.x(1), GAP))[:-1])
@@ -130,7 +130,7 @@ def add_order(write):
 
 def faults(path, gap):
     """A fault of the path for each refusal."""
-    return {14: (path.segments, 0), 3: (path.level, SHEET_FINEST + 1),
+    return {14: (path.segments, 0), 3: (path.mark, SHEET_FINEST + 1),
             17: (path.segments, MOST_SEGMENTS), 1: (path.x(0), FAR),
             2: (path.x(3), gap)}
 

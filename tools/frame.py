@@ -19,16 +19,16 @@ LEFT, ABOVE, RIGHT, BELOW = 48, 74, 28, 30
 # The paths of a sheet
 
 class Drawn:
-    """A path: its level and control points of the sheet, its text and entries of the listing."""
+    """A path: its degree, level and control points of the sheet, its text and entries of the listing."""
 
-    def __init__(self, level, points, heading):
+    def __init__(self, path, heading):
         words = heading.split()
-        self.level, self.points = level, points
+        self.degree, self.level, self.points = path
         self.index, self.count, self.length = (int(words[i]) for i in (1, 3, 5))
         self.entries = []
 
     def segments(self):
-        return segments_of(self.points)
+        return segments_of(self.degree, self.points)
 
     def end(self):
         return self.entries[-1].position
@@ -47,7 +47,7 @@ def read_drawn(sheet, listing):
     drawn = []
     for row in listing.splitlines()[1:]:
         if row.startswith("path"):
-            drawn.append(Drawn(*paths[len(drawn)], row))
+            drawn.append(Drawn(paths[len(drawn)], row))
         else:
             drawn[-1].entries.append(Entry(*map(int, row.split())))
     return drawn

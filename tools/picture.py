@@ -17,7 +17,11 @@ from xml.sax.saxutils import escape
 
 from frame import ABOVE, BELOW, Frame, between, read_drawn
 from lane import lane
+from model.constants import CUBIC, QUADRATIC
 from svg import AXIS, CURVE, GRID, HANDLE, INK, LANE, PAPER, SCALE, SOFT, colour, line, number, text
+
+COMMANDS = {QUADRATIC: "Q", CUBIC: "C"}         # of an SVG path
+SEGMENT = {QUADRATIC: "quadratic segment", CUBIC: "segment"}
 
 GRID_SCALE = 5                      # from here on the unit grid is drawn
 LEGEND, LINE = 40, 18
@@ -74,7 +78,7 @@ def polygon(path):
 
 
 def curve(path):
-    return f'<path d="M{joined(path.points[:1])}C{joined(path.points[1:])}"/>'
+    return f'<path d="M{joined(path.points[:1])}{COMMANDS[path.degree]}{joined(path.points[1:])}"/>'
 
 
 def dot(entry, radius, hint):
@@ -162,7 +166,7 @@ def title(drawn):
 
 def notes(drawn, every):
     """The lines of text below the drawing."""
-    lines = [f"path {path.index}: {many(path.segments(), 'segment')} from level {path.level}, "
+    lines = [f"path {path.index}: {many(path.segments(), SEGMENT[path.degree])} from level {path.level}, "
              f"{many(path.count, 'point')}, length {thousandths(path.length)}" for path in drawn[:MOST_LINES]]
     if len(drawn) > MOST_LINES:
         lines.append(f"and {many(len(drawn) - MOST_LINES, 'path')} more")
