@@ -1,6 +1,6 @@
 -- A start that is accepted.
 use mathlib.Core.Path.{_≡_, refl, ap, _∙_}
-use mathlib.Core.Bool.{true}
+use mathlib.Core.Bool.{Bool, true}
 use Prim.Native.Nat.{ℕ, _≤_}
 use borrow.Author.Tests.{leb-true}
 use Rattle.rules.specs.declared.Degree.{Degree}
@@ -15,7 +15,7 @@ use Rattle.coordinate.specs.Course.{first}
 use Rattle.coordinate.specs.Registers.{startRegisters}
 use Rattle.coordinate.specs.Shown.{pixel}
 use Rattle.coordinate.proofs.Ends.{first-shown}
-use Rattle.operations.specs.Coordinates.{Coordinate, in-x, in-y, in-width, every}
+use Rattle.operations.specs.Coordinates.{Coordinate, in-x, in-y, in-width}
 use Rattle.operations.specs.Refusals.{beginRefusal, startRefusal}
 use Rattle.operations.proofs.Every.{every-true}
 use Rattle.engine.specs.declared.Moved.{Moved}
@@ -29,18 +29,25 @@ pub record Accepted (D : Degree) (F : ℕ) (p : Coordinate → Control D) (n : �
   pub near : (c : Coordinate) → areNear D (reach D F) (p c) ≡ true
   pub level : n ≤ F
 
-pub accepted : (D : Degree) (F : ℕ) (p : Coordinate → Control D) (n : ℕ) → startRefusal D F p n ≡ 0 → Accepted D F p n
-unfolding startRefusal beginRefusal isLevel
-accepted D F p n e =
+-- what the table lets through
+pub begin-kept : (F : ℕ) (inside near : Bool) (n : ℕ) → beginRefusal F inside near n ≡ 0 → Fine F × (inside ≡ true) × (near ≡ true) × (n ≤ F)
+unfolding beginRefusal isLevel
+begin-kept F inside near n e =
     let finest = rule-kept (isFinest F) 23 _ e in
-    let points = rule-kept (every (λ c. areCoordinates D (p c))) 0 _ (finest .1) in
-    let near = rule-kept (every (λ c. areNear D (reach D F) (p c))) 1 _ (points .1) in
-    let level = rule-kept (isLevel F n) 2 0 (near .1) in
+    let points = rule-kept inside 0 _ (finest .1) in
+    let neighbours = rule-kept near 1 _ (points .1) in
+    let level = rule-kept (isLevel F n) 2 0 (neighbours .1) in
+    (finest-holds F (finest .0), points .0, neighbours .0, leb-true n F (level .0))
+
+pub accepted : (D : Degree) (F : ℕ) (p : Coordinate → Control D) (n : ℕ) → startRefusal D F p n ≡ 0 → Accepted D F p n
+unfolding startRefusal
+accepted D F p n e =
+    let t = begin-kept F _ _ n e in
     record {
-      fine = finest-holds F (finest .0);
-      coordinates = every-true (λ c. areCoordinates D (p c)) (points .0);
-      near = every-true (λ c. areNear D (reach D F) (p c)) (near .0);
-      level = leb-true n F (level .0);
+      fine = t .0;
+      coordinates = every-true (λ c. areCoordinates D (p c)) (t .1);
+      near = every-true (λ c. areNear D (reach D F) (p c)) (t .2);
+      level = t .3;
     }
 
 pub start-begins : (D : Degree) (F : ℕ) (p : Coordinate → Control D) (n : ℕ) → startRefusal D F p n ≡ 0

@@ -3,7 +3,7 @@ pub mod Fitting
 pub mod Each
 pub mod Answers
 pub mod Accepted
-pub mod Ready
+pub mod Begun
 pub mod Demand1
 pub mod Order
 pub mod Said

@@ -1,25 +1,35 @@
-// A cubic: the refusals of its start, and its coefficients.
+// One coordinate of a cubic: rules 1 and 2, and its coefficients.
 ghost use mathlib.Core.Path.{_≡_};
 ghost use mathlib.Core.Bool.{true};
+ghost use Prim.Native.Nat.{_≤_};
 ghost use Rattle.rules.specs.declared.Degree.the-variants as degree;
 ghost use Rattle.rules.specs.Rules.{mostReach};
 ghost use Rattle.coordinate.specs.Curve.{curve};
 ghost use Rattle.coordinate.specs.Points.{areCoordinates, areNear};
-ghost use Rattle.operations.specs.Coordinates.{pick};
-ghost use Rattle.operations.specs.Refusals.{startRefusal};
-ghost use Rattle.engine.specs.Coefficients.{curveOf};
+ghost use Rattle.engine.specs.Checked.{curveOf, checked};
+use crate::starting::Checked;
 use crate::starting::Coefficients;
-use crate::starting::begin_refusal;
+use crate::starting::no_curve;
 use coordinate::Cubic;
-use rules::Degree;
 
-pub(crate) fn cubic_refusal(x: Cubic, y: Cubic, width: Cubic, finest: u32, level: u32) -> u32
-    ensures { λ r. ⌜ r ≡ startRefusal degree.Cubic finest (pick x y width) level ⌝ }
+pub(crate) fn check_cubic(p: Cubic, reach: u32) -> Checked
+    requires { ⌜ reach ≤ mostReach degree.Cubic ⌝ }
+    ensures { λ r. ⌜ r ≡ checked degree.Cubic reach p ⌝ }
 {
-    let inside = coordinates(x) & coordinates(y) & coordinates(width);
-    let reach = rules::reach(Degree::Cubic, finest);
-    let near = near(reach, x) & near(reach, y) & near(reach, width);
-    begin_refusal(finest, inside, near, level)
+    let inside = coordinates(p);
+    let near = near(reach, p);
+    if inside & near {
+        return Checked {
+            inside: inside,
+            near: near,
+            curve: curve(p),
+        };
+    }
+    Checked {
+        inside: inside,
+        near: near,
+        curve: no_curve(),
+    }
 }
 
 fn coordinates(p: Cubic) -> bool
@@ -40,7 +50,7 @@ fn near(reach: u32, p: Cubic) -> bool
 }
 
 // By the differences of neighbours, which are small.
-pub(crate) fn cubic_curve(p: Cubic) -> Coefficients
+fn curve(p: Cubic) -> Coefficients
     requires { ⌜ (areCoordinates degree.Cubic p ≡ true) × (areNear degree.Cubic (mostReach degree.Cubic) p ≡ true) ⌝ }
     ensures { λ r. ⌜ curveOf r ≡ curve degree.Cubic p ⌝ }
 {

@@ -20,19 +20,17 @@ use choosing::increment_of;
 use coordinate::Cubic;
 use coordinate::Quadratic;
 use coordinate::Registers;
-use cubic::cubic_curve;
-use cubic::cubic_refusal;
-use quadratic::quadratic_curve;
-use quadratic::quadratic_refusal;
+use cubic::check_cubic;
+use quadratic::check_quadratic;
 use refusals::choice_refusal;
 use refusals::double_refusal;
 use refusals::gate;
 use refusals::halve_refusal;
 use refusals::is_aligned;
 use refusals::stride;
+use rules::Degree;
 use rules::Limits;
-use starting::first_of;
-use starting::nothing;
+use starting::begin;
 use turning::double_one;
 use turning::halve_one;
 use turning::land;
@@ -76,17 +74,11 @@ impl Drawing {
     pub fn start(x: Cubic, y: Cubic, width: Cubic, finest: u32, level: u32) -> Moved
         ensures { λ r. ⌜ r ≡ started degree.Cubic finest (pick x y width) level ⌝ }
     {
-        let refusal = cubic_refusal(x, y, width, finest, level);
-        if refusal != 0 {
-            return refuse(refusal, nothing());
-        }
-        let x = cubic_curve(x);
-        let y = cubic_curve(y);
-        let width = cubic_curve(width);
-        Moved {
-            refusal: 0,
-            drawing: first_of(x, y, width, finest, level),
-        }
+        let reach = rules::reach(Degree::Cubic, finest);
+        let x = check_cubic(x, reach);
+        let y = check_cubic(y, reach);
+        let width = check_cubic(width, reach);
+        begin(x, y, width, finest, level)
     }
 
     // The same of a quadratic: a drawing does not know its degree. Refuses 24, 1, 2, 3.
@@ -99,17 +91,11 @@ impl Drawing {
     ) -> Moved
         ensures { λ r. ⌜ r ≡ started degree.Quadratic finest (pick x y width) level ⌝ }
     {
-        let refusal = quadratic_refusal(x, y, width, finest, level);
-        if refusal != 0 {
-            return refuse(refusal, nothing());
-        }
-        let x = quadratic_curve(x);
-        let y = quadratic_curve(y);
-        let width = quadratic_curve(width);
-        Moved {
-            refusal: 0,
-            drawing: first_of(x, y, width, finest, level),
-        }
+        let reach = rules::reach(Degree::Quadratic, finest);
+        let x = check_quadratic(x, reach);
+        let y = check_quadratic(y, reach);
+        let width = check_quadratic(width, reach);
+        begin(x, y, width, finest, level)
     }
 
     // One level finer. Refuses 10, 5, 6, 10, with the drawing as it was.

@@ -1,31 +1,35 @@
-// A quadratic: the refusals of its start, and its coefficients.
+// One coordinate of a quadratic: rules 1 and 2, and its coefficients.
 ghost use mathlib.Core.Path.{_≡_};
 ghost use mathlib.Core.Bool.{true};
+ghost use Prim.Native.Nat.{_≤_};
 ghost use Rattle.rules.specs.declared.Degree.the-variants as degree;
 ghost use Rattle.rules.specs.Rules.{mostReach};
 ghost use Rattle.coordinate.specs.Curve.{curve};
 ghost use Rattle.coordinate.specs.Points.{areCoordinates, areNear};
-ghost use Rattle.operations.specs.Coordinates.{pick};
-ghost use Rattle.operations.specs.Refusals.{startRefusal};
-ghost use Rattle.engine.specs.Coefficients.{curveOf};
+ghost use Rattle.engine.specs.Checked.{curveOf, checked};
+use crate::starting::Checked;
 use crate::starting::Coefficients;
-use crate::starting::begin_refusal;
+use crate::starting::no_curve;
 use coordinate::Quadratic;
-use rules::Degree;
 
-pub(crate) fn quadratic_refusal(
-    x: Quadratic,
-    y: Quadratic,
-    width: Quadratic,
-    finest: u32,
-    level: u32,
-) -> u32
-    ensures { λ r. ⌜ r ≡ startRefusal degree.Quadratic finest (pick x y width) level ⌝ }
+pub(crate) fn check_quadratic(p: Quadratic, reach: u32) -> Checked
+    requires { ⌜ reach ≤ mostReach degree.Quadratic ⌝ }
+    ensures { λ r. ⌜ r ≡ checked degree.Quadratic reach p ⌝ }
 {
-    let inside = coordinates(x) & coordinates(y) & coordinates(width);
-    let reach = rules::reach(Degree::Quadratic, finest);
-    let near = near(reach, x) & near(reach, y) & near(reach, width);
-    begin_refusal(finest, inside, near, level)
+    let inside = coordinates(p);
+    let near = near(reach, p);
+    if inside & near {
+        return Checked {
+            inside: inside,
+            near: near,
+            curve: curve(p),
+        };
+    }
+    Checked {
+        inside: inside,
+        near: near,
+        curve: no_curve(),
+    }
 }
 
 fn coordinates(p: Quadratic) -> bool
@@ -41,7 +45,7 @@ fn near(reach: u32, p: Quadratic) -> bool
 }
 
 // By the differences of neighbours, which are small.
-pub(crate) fn quadratic_curve(p: Quadratic) -> Coefficients
+fn curve(p: Quadratic) -> Coefficients
     requires { ⌜ (areCoordinates degree.Quadratic p ≡ true) × (areNear degree.Quadratic (mostReach degree.Quadratic) p ≡ true) ⌝ }
     ensures { λ r. ⌜ curveOf r ≡ curve degree.Quadratic p ⌝ }
 {

@@ -9,7 +9,7 @@ use Rattle.numbers.proofs.Size.{Size}
 use Rattle.coordinate.specs.Curve.{Curve}
 use Rattle.coordinate.specs.Registers.{_>>_, unit}
 use Rattle.coordinate.proofs.Start.{reckoned-start}
-use Rattle.engine.specs.Coefficients.{curveOf}
+use Rattle.engine.specs.Checked.{curveOf}
 use Rattle.engine.proofs.starting.start_one.Statement.{statement}
 use Rattle.engine.proofs.starting.start_one.Tie as tie
 

@@ -8,8 +8,8 @@ use Rattle.rules.specs.Rules.{mostReach}
 use Rattle.coordinate.specs.Control.{Control}
 use Rattle.coordinate.proofs.Points.{Extent, extent, Reach, reaches}
 use Rattle.coordinate.proofs.Coefficients.{by-differences}
-use Rattle.engine.proofs.quadratic.quadratic_curve.Statement.{statement}
-use Rattle.engine.proofs.quadratic.quadratic_curve.Tie as tie
+use Rattle.engine.proofs.quadratic.curve.Statement.{statement}
+use Rattle.engine.proofs.quadratic.curve.Tie as tie
 
 abbrev p : tie.Start → Control Quadratic
 p c = c .args .p
@@ -60,5 +60,5 @@ returns c =
     (λ i. record { A = pos 0; B = local w32 tt (B s) .is i; C = local w32 tt (C s) .is i; D = known w32 tt (at-points s .0) .is i })
     ∙ by-differences Quadratic (p s)
 
-pub quadratic-curve-spec : {M : Type 1} → statement M
-quadratic-curve-spec = tie.close (tie.spec sub-first sub-second sub-b mul-c returns)
+pub curve-spec : {M : Type 1} → statement M
+curve-spec = tie.close (tie.spec sub-first sub-second sub-b mul-c returns)

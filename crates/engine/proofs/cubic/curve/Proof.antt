@@ -8,8 +8,8 @@ use Rattle.rules.specs.Rules.{mostReach}
 use Rattle.coordinate.specs.Control.{Control}
 use Rattle.coordinate.proofs.Points.{Extent, extent, Reach, reaches}
 use Rattle.coordinate.proofs.Coefficients.{by-differences}
-use Rattle.engine.proofs.cubic.cubic_curve.Statement.{statement}
-use Rattle.engine.proofs.cubic.cubic_curve.Tie as tie
+use Rattle.engine.proofs.cubic.curve.Statement.{statement}
+use Rattle.engine.proofs.cubic.curve.Tie as tie
 
 abbrev p : tie.Start → Control Cubic
 p c = c .args .p
@@ -93,6 +93,6 @@ returns c =
     (λ i. record { A = local w32 tt (A s) .is i; B = local w32 tt (B s) .is i; C = local w32 tt (C s) .is i; D = known w32 tt (at-points s .0) .is i })
     ∙ by-differences Cubic (p s)
 
-pub cubic-curve-spec : {M : Type 1} → statement M
-cubic-curve-spec =
+pub curve-spec : {M : Type 1} → statement M
+curve-spec =
     tie.close (tie.spec sub-first sub-second sub-third mul-a sub-a add-a sub-b mul-b mul-c returns)
