@@ -123,7 +123,9 @@ fn run(points: &[i32], shape: Shape, limits: Limits, list: &mut [i32]) -> Tally
     let mut t = begin(points, shape, list);
     let mut k: u32 = 0;
     'segments: while k < segments {
-        let mut d = first_of(points, shape, k);
+        // A copy, which the operations can change in registers: what a call hands over stays in memory.
+        let first = first_of(points, shape, k);
+        let mut d = first;
         'operations: loop {
             let next = d.next(limits);
             match next {
