@@ -23,7 +23,7 @@ from model.listing import listing
 from outcomes import QUADRATICS, RULES, TOLD, answered, missing
 from probe_protocol import in_words
 from probe_requests import limit_requests, make_batch
-from programs import build_missing, run_program
+from programs import build_stale, run_program
 from tally import Tally
 
 BATCH = 1_000
@@ -162,10 +162,10 @@ def main():
     chosen = options.parse_args()
     report = Report()
     if chosen.number > 0:
-        build_missing(["probe"], chosen.root)
+        build_stale(["probe"], chosen.root)
         compare_requests(report, chosen.seed, chosen.number, chosen.root)
     if chosen.sheets > 0:
-        build_missing(["listing"], chosen.root)
+        build_stale(["listing"], chosen.root)
         compare_sheets(report, chosen.seed, chosen.sheets, chosen.root)
     sys.exit(report.end())
 

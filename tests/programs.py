@@ -55,12 +55,22 @@ def program_file(name, root):
     return Path(root) / "target" / "bin" / name
 
 
-def build_missing(names, root=ROOT):
-    """Has rt prove and link the programs that are not there yet."""
-    missing = [name for name in names if not program_file(name, root).exists()]
-    if missing:
-        print("rt check", *missing, flush=True)
-        built = subprocess.run(["rt", "check", *missing], cwd=root, check=False)
+def is_fresh(program, root):
+    """It is there, and no source is newer."""
+    if not program.exists():
+        return False
+    built = program.stat().st_mtime
+    sources = [Path(root) / "crates.txt", *Path(root, "crates").rglob("*")]
+    return all(source.stat().st_mtime <= built for source in sources)
+
+
+def build_stale(names, root=ROOT):
+    """Has rt prove and link the programs that are missing or out of date."""
+    stale = [name for name in names
+             if not is_fresh(program_file(name, root), root)]
+    if stale:
+        print("rt check", *stale, flush=True)
+        built = subprocess.run(["rt", "check", *stale], cwd=root, check=False)
         if built.returncode != 0:
             sys.exit("rt check failed")
 
