@@ -15,6 +15,7 @@ use Rattle.operations.specs.Coordinates.{Coordinate, pick}
 use Rattle.operations.proofs.Every.{picked}
 use Rattle.operations.specs.Refusals.{startRefusal}
 use Rattle.engine.specs.declared.Drawing.{Drawing}
+use Rattle.engine.specs.declared.Moved.{Moved}
 use Rattle.engine.specs.declared.starting.Coefficients.{Coefficients}
 use Rattle.engine.specs.declared.starting.Checked.{Checked}
 use Rattle.engine.specs.Drawing.{moved}
@@ -27,9 +28,9 @@ module _ (D : Degree) (W : ℕ) (p : Control D) where
   kept = areCoordinates D p && areNear D W p
 
   -- whether or not it keeps its rules
-  pub checked-mild : W ≤ mostReach D → Mild (curveOf (checked D W p .curve))
+  pub checked-mild : {k : Checked} → k ≡ checked D W p → W ≤ mostReach D → Mild (curveOf (k .curve))
   unfolding checked
-  checked-mild h = by-test kept refl
+  checked-mild e h = rw e (by-test kept refl)
     where
       by-test : (b : Bool) → kept ≡ b → Mild (curveOf (cond b (coefficients (curve D p)) noCurve))
       by-test true e =
@@ -76,10 +77,11 @@ begun-started D F p n = moved-same (startRefusal D F p n) nothingDrawn _ _ same
         λ i. firstDrawing F (λ c. checked-curve D (reach D F) (p c) (a .coordinates c) (a .near c) i) n
 
 -- coordinate by coordinate, as the code checks them
-pub start-by : (D : Degree) (F : ℕ) (x y width : Control D) (n W : ℕ) {cx cy cw : Checked} → W ≡ reach D F
-    → cx ≡ checked D W x → cy ≡ checked D W y → cw ≡ checked D W width → begun F (pick cx cy cw) n ≡ started D F (pick x y width) n
-start-by D F x y width n W w ex ey ew =
-    (λ i. begun F (pick (ex i) (ey i) (ew i)) n)
+pub start-by : (D : Degree) (F : ℕ) (x y width : Control D) (n W : ℕ) {cx cy cw : Checked} {m : Moved} → W ≡ reach D F
+    → cx ≡ checked D W x → cy ≡ checked D W y → cw ≡ checked D W width → m ≡ begun F (pick cx cy cw) n → m ≡ started D F (pick x y width) n
+start-by D F x y width n W w ex ey ew em =
+    em
+    ∙ (λ i. begun F (pick (ex i) (ey i) (ew i)) n)
     ∙ (λ i. begun F (pick (checked D (w i) x) (checked D (w i) y) (checked D (w i) width)) n)
     ∙ ap (λ (p : Coordinate → Checked). begun F p n) (picked (λ c. checked D (reach D F) (pick x y width c)))
     ∙ begun-started D F (pick x y width) n

@@ -1,13 +1,9 @@
 -- The three coordinates are checked by the reach of the degree at F, and what begins is the start of their control points.
-use mathlib.Core.Path.{sym, subst, _∙_}
 use Prim.Native.Nat.{_≤_}
 use borrow.Author.Needs.{needs}
 use Rattle.rules.specs.declared.Degree.the-variants.{Cubic}
 use Rattle.rules.specs.Rules.{mostReach}
 use Rattle.rules.proofs.Reaches.{reach-most}
-use Rattle.coordinate.specs.Curve.{Mild}
-use Rattle.engine.specs.declared.starting.Checked.{Checked}
-use Rattle.engine.specs.Checked.{curveOf}
 use Rattle.engine.proofs.Begun.{checked-mild, start-by}
 use Rattle.engine.proofs.Drawing.start.Statement.{statement}
 use Rattle.engine.proofs.Drawing.start.Tie as tie
@@ -32,11 +28,10 @@ begin-requires : tie.Need-begin-requires
 begin-requires c κs =
     let r = c .before .before .before in
     let W = r .reach .result in
-    let a = r .before .args in
-    let small : Checked → Type 0 = λ k. Mild (curveOf (k .curve)) in (
-      subst small (sym (c .before .before .check-cubic .ensures)) (checked-mild Cubic W (a .x) (within r)),
-      subst small (sym (c .before .check-cubic2 .ensures)) (checked-mild Cubic W (a .y) (within r)),
-      subst small (sym (c .check-cubic3 .ensures)) (checked-mild Cubic W (a .width) (within r)),
+    let a = r .before .args in (
+      checked-mild Cubic W (a .x) (c .before .before .check-cubic .ensures) (within r),
+      checked-mild Cubic W (a .y) (c .before .check-cubic2 .ensures) (within r),
+      checked-mild Cubic W (a .width) (c .check-cubic3 .ensures) (within r),
     )
 
 returns : tie.Need-returns
@@ -44,9 +39,8 @@ returns c =
     let k = c .before in
     let r = k .before .before .before in
     let a = r .before .args in
-    c .begin .ensures
-    ∙ start-by Cubic (a .finest) (a .x) (a .y) (a .width) (a .level) (r .reach .result) (r .reach .ensures) (k .before .before .check-cubic .ensures)
-    (k .before .check-cubic2 .ensures) (k .check-cubic3 .ensures)
+    start-by Cubic (a .finest) (a .x) (a .y) (a .width) (a .level) (r .reach .result) (r .reach .ensures) (k .before .before .check-cubic .ensures)
+    (k .before .check-cubic2 .ensures) (k .check-cubic3 .ensures) (c .begin .ensures)
 
 pub start-spec : {M : Type 1} → statement M
 start-spec =
