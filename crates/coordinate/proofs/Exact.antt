@@ -32,9 +32,9 @@ lag G c x = c *ℤ G *ℤ G -ℤ x
 abbrev pub miss : ℤ → ℤ → ℤ → ℤ
 miss G d y = d *ℤ G *ℤ G *ℤ G -ℤ y
 
--- the bound of d's error at q
+-- the bound of twice d's error at q
 abbrev pub drift : ℤ → ℤ → ℤ
-drift G q = (q *ℤ q +ℤ q *ℤ G -ℤ q) *ℤ G *ℤ G
+drift G q = (q *ℤ q +ℤ pos 2 *ℤ q *ℤ G -ℤ q) *ℤ G *ℤ G
 
 -- ---- the same of a curve, in the registers' own numbers
 
@@ -78,7 +78,7 @@ abbrev pub missE : Ex → Ex → Ex → Ex
 missE G d y = d :* G :* G :* G :- y
 
 abbrev pub driftE : Ex → Ex → Ex
-driftE G q = (q :* q :+ q :* G :- q) :* G :* G
+driftE G q = (q :* q :+ # 2 :* q :* G :- q) :* G :* G
 
 -- ---- one halving, from step 2s to step s at level n: c gives up η, the floor of beta / 4M, and its error grows by 0 to G²
 
@@ -160,31 +160,39 @@ step-high q s G E E' e e' hG h1 h2 h3 h4 =
     )) tt q s G E E' e e')
     (gap h1 ⊕ gap h2 ⊕ gap h3 ⊕ gap h4 ⊕ hG ⊗ hG)
 
-pub drift-high : (M s q c δ G E e Z : ℤ) → pos 0 ≤ℤ s → pos 0 ≤ℤ q → pos 0 ≤ℤ G
-    → Z ≤ℤ drift G q → E ≤ℤ ((q +ℤ G -ℤ pos 1) *ℤ G *ℤ G) → e ≤ℤ E → (M *ℤ δ) ≤ℤ c
-    → (Z +ℤ s *ℤ e -ℤ s *ℤ G *ℤ G *ℤ (c -ℤ M *ℤ δ)) ≤ℤ drift G (q +ℤ s)
-drift-high M s q c δ G E e Z hs hq hG h1 h2 h3 h4 =
+-- twice d's error grows by at most 2s·(q + G − 1)·G²
+pub drift-high : (M s q c δ G E e Z : ℤ) → pos 0 ≤ℤ s → pos 0 ≤ℤ G
+    → (pos 2 *ℤ Z) ≤ℤ drift G q → E ≤ℤ ((q +ℤ G -ℤ pos 1) *ℤ G *ℤ G) → e ≤ℤ E → (M *ℤ δ) ≤ℤ c
+    → (pos 2 *ℤ (Z +ℤ s *ℤ e -ℤ s *ℤ G *ℤ G *ℤ (c -ℤ M *ℤ δ))) ≤ℤ drift G (q +ℤ s)
+drift-high M s q c δ G E e Z hs hG h1 h2 h3 h4 =
+    let two = hs ⊕ hs in
     certified (ring 9 (λ M s q c δ G E e Z. (
-      driftE G (q :+ s) :- (Z :+ s :* e :- s :* G :* G :* (c :- M :* δ)),
-      (driftE G q :- Z) :+ s :* ((q :+ G :- # 1) :* G :* G :- E) :+ s :* (E :- e) :+ s :* G :* G :* (c :- M :* δ) :+ (q :* s :+ s :* s) :* G :* G,
+      driftE G (q :+ s) :- # 2 :* (Z :+ s :* e :- s :* G :* G :* (c :- M :* δ)),
+      (driftE G q :- # 2 :* Z)
+          :+ (s :+ s) :* ((q :+ G :- # 1) :* G :* G :- E)
+          :+ (s :+ s) :* (E :- e)
+          :+ (s :+ s) :* G :* G :* (c :- M :* δ)
+          :+ (s :* s :+ s) :* G :* G,
     )) tt M s q c δ G E e Z)
-    (gap h1 ⊕ hs ⊗ gap h2 ⊕ hs ⊗ gap h3 ⊕ hs ⊗ hG ⊗ hG ⊗ gap h4 ⊕ (hq ⊗ hs ⊕ hs ⊗ hs) ⊗ hG ⊗ hG)
+    (gap h1 ⊕ two ⊗ gap h2 ⊕ two ⊗ gap h3 ⊕ two ⊗ hG ⊗ hG ⊗ gap h4 ⊕ (hs ⊗ hs ⊕ hs) ⊗ hG ⊗ hG)
 
-pub drift-low : (M s q c δ G E e Z : ℤ) → G ≡ M *ℤ s → pos 0 ≤ℤ s → pos 0 ≤ℤ (s -ℤ pos 1) → pos 0 ≤ℤ q → pos 0 ≤ℤ G
-    → (pos 0 -ℤ drift G q) ≤ℤ Z → (pos 0 -ℤ (q +ℤ pos 1) *ℤ G *ℤ G) ≤ℤ E → E ≤ℤ (e +ℤ (s -ℤ pos 1) *ℤ G *ℤ G) → c ≤ℤ (M *ℤ δ +ℤ M -ℤ pos 1)
-    → (pos 0 -ℤ drift G (q +ℤ s)) ≤ℤ (Z +ℤ s *ℤ e -ℤ s *ℤ G *ℤ G *ℤ (c -ℤ M *ℤ δ))
-drift-low M s q c δ G E e Z eG hs hu hq hG h1 h2 h3 h4 =
+-- and falls by at most 2·(s·(q + s) + G − s)·G²: that is all of the bound where s is 1, and (s − 1)·(2·G − s)·G² are left else
+pub drift-low : (M s q c δ G E e Z : ℤ) → G ≡ M *ℤ s → pos 0 ≤ℤ (M -ℤ pos 1) → pos 0 ≤ℤ s → pos 0 ≤ℤ (s -ℤ pos 1) → pos 0 ≤ℤ G
+    → (pos 0 -ℤ drift G q) ≤ℤ (pos 2 *ℤ Z) → (pos 0 -ℤ (q +ℤ pos 1) *ℤ G *ℤ G) ≤ℤ E → E ≤ℤ (e +ℤ (s -ℤ pos 1) *ℤ G *ℤ G) → c ≤ℤ (M *ℤ δ +ℤ M -ℤ pos 1)
+    → (pos 0 -ℤ drift G (q +ℤ s)) ≤ℤ (pos 2 *ℤ (Z +ℤ s *ℤ e -ℤ s *ℤ G *ℤ G *ℤ (c -ℤ M *ℤ δ)))
+drift-low M s q c δ G E e Z eG hM hs hu hG h1 h2 h3 h4 =
     let G0 = rw eG at hG in
+    let two = hs ⊕ hs in
     rw eG
     (certified (ring 8 (λ M s q c δ E e Z. let G : Ex = M :* s in (
-      Z :+ s :* e :- s :* G :* G :* (c :- M :* δ) :- (# 0 :- driftE G (q :+ s)),
-      (Z :- (# 0 :- driftE G q))
-          :+ s :* (E :- (# 0 :- (q :+ # 1) :* G :* G))
-          :+ s :* (e :+ (s :- # 1) :* G :* G :- E)
-          :+ s :* G :* G :* (M :* δ :+ M :- # 1 :- c)
-          :+ (q :* s :+ (s :- # 1) :* G) :* G :* G,
+      # 2 :* (Z :+ s :* e :- s :* G :* G :* (c :- M :* δ)) :- (# 0 :- driftE G (q :+ s)),
+      (# 2 :* Z :- (# 0 :- driftE G q))
+          :+ (s :+ s) :* (E :- (# 0 :- (q :+ # 1) :* G :* G))
+          :+ (s :+ s) :* (e :+ (s :- # 1) :* G :* G :- E)
+          :+ (s :+ s) :* G :* G :* (M :* δ :+ M :- # 1 :- c)
+          :+ (s :- # 1) :* (G :+ (M :- # 1) :* s) :* G :* G,
     )) tt M s q c δ E e Z)
-    (gap (rw eG at h1) ⊕ hs ⊗ gap (rw eG at h2) ⊕ hs ⊗ gap (rw eG at h3) ⊕ hs ⊗ G0 ⊗ G0 ⊗ gap h4 ⊕ (hq ⊗ hs ⊕ hu ⊗ G0) ⊗ G0 ⊗ G0))
+    (gap (rw eG at h1) ⊕ two ⊗ gap (rw eG at h2) ⊕ two ⊗ gap (rw eG at h3) ⊕ two ⊗ G0 ⊗ G0 ⊗ gap h4 ⊕ hu ⊗ (G0 ⊕ hM ⊗ hs) ⊗ G0 ⊗ G0))
 
 -- ---- the start: c is the floor of 65,536·(C·M² + B·M + A) by M²
 

@@ -1,7 +1,7 @@
 -- How large the registers of one coordinate are, at any level and any q up to the end, by what is known of its exact curve.
 use mathlib.Core.Path.{_≡_, refl, sym, ap, subst}
 use Prim.Native.Nat.{ℕ, _+_, _*_, _-_, _^_, _≤_, _<_}
-use native.Mathlib.Nat.{mul-le-mul, mul-le-mul-left, mul-le-mul-right, le-refl, le-of-eq, le-of-lt, le-trans, mul-pos}
+use native.Mathlib.Nat.{mul-le-mul, mul-le-mul-left, mul-le-mul-right, le-refl, le-of-eq, le-trans, mul-pos}
 use native.Mathlib.Omega.{arith}
 use lib.Pow.{pow-pos}
 use lib.IntN.{ℤ, pos, _+ℤ_, _-ℤ_, _*ℤ_}
@@ -87,10 +87,9 @@ module _ (F : ℕ) (p : Course) (h : F ≤ 16) (t : Tame F p) (n j q : ℕ) (r :
   d-size : Size (r .d) (65536 * 16384 + 2 * 2 ^ F)
   d-size =
       let y : ℤ = pos 65536 *ℤ exact F (p .curve) q in
-      let close : Size (r .d *ℤ pos (2 ^ (3 * F)) -ℤ y) (2 * 2 ^ F * 2 ^ (3 * F)) = record { le = le-of-lt (near F (p .curve) n j q r h o (2 * 2 ^ F) (le-refl _)) } in
       size-factor (2 ^ (3 * F)) (pow-pos (3 * F))
       (size-by (ring 3 (λ d G x. (d :* G, (d :* G :- x) :+ x)) tt (r .d) (pos (2 ^ (3 * F))) y) (total (2 * 2 ^ F) (2 ^ (3 * F)))
-      (size-sum close (size-product (size-of 65536) (t .extent q (o .within)))))
+      (size-sum (near F (p .curve) n j q r h o) (size-product (size-of 65536) (t .extent q (o .within)))))
     where
       total : (L S : ℕ) → L * S + 65536 * (16384 * S) ≤ (65536 * 16384 + L) * S
       total L S = omega arith

@@ -1,8 +1,8 @@
 -- Demand 3 for one coordinate: wherever the invariant holds of a tame course, its registers fit 32 bits and it stands where the course stands.
 use mathlib.Core.Path.{_≡_, refl, ap, _∙_, subst}
 use mathlib.Core.Bool.{true, _&&_}
-use Prim.Native.Nat.{ℕ, _+_, _*_, _^_, _≤_}
-use native.Mathlib.Nat.{le-trans, mul-le-mul-right}
+use Prim.Native.Nat.{ℕ, _+_, _*_, _^_, _≤_, _<_}
+use native.Mathlib.Nat.{le-trans}
 use native.Mathlib.Omega.{arith}
 use lib.Dec.{lit≤}
 use lib.Pow.{pow-mono}
@@ -12,12 +12,12 @@ use Rattle.numbers.proofs.Size.{Size, size-of, size-by, size-sum, size-floor}
 use Rattle.rules.specs.declared.Degree.{Degree}
 use Rattle.coordinate.specs.declared.Registers.{Registers}
 use Rattle.coordinate.specs.Control.{Control}
-use Rattle.coordinate.specs.Curve.{Curve, exact}
+use Rattle.coordinate.specs.Curve.{Curve, exact, off}
 use Rattle.coordinate.specs.Course.{Course, course}
 use Rattle.coordinate.specs.Registers.{isRegister, areRegisters}
 use Rattle.coordinate.specs.Shown.{pixel}
 use Rattle.coordinate.specs.Stands.{Stands, InNumbers}
-use Rattle.coordinate.proofs.Near.{At, near}
+use Rattle.coordinate.proofs.Near.{At, close, below}
 use Rattle.coordinate.proofs.Sizes.{Tame, sizes}
 use Rattle.coordinate.proofs.Ends.{first-exact, first-shown, last-shown}
 
@@ -54,11 +54,13 @@ shown-size F p n j q r h t o =
 pub stands : (F : ℕ) (p : Course) (n j q : ℕ) (r : Registers) → F ≤ 12 → Tame F p → At F (p .curve) n j q r → Stands F p q r
 unfolding Bounded
 stands F p n j q r h t o =
+    let by = close F (p .curve) n j q r (omega arith) o in
     let at-first : q ≡ 0 → r .d ≡ pos 65536 *ℤ p .first =
     λ e. first-exact F (p .curve) n j r (omega arith) (subst (λ (t : ℕ). At F (p .curve) n j t r) e o) ∙ ap (λ z. pos 65536 *ℤ z) (t .starts) in
     record {
       fits = bounded F p h t n j q r o;
-      near = near F (p .curve) n j q r (omega arith) o (3 * 2 ^ F) (mul-le-mul-right (2 ^ F) (lit≤ tt));
+      near = below F (3 * 2 ^ F) (omega arith) by;
+      close = by;
       first = at-first;
       first-shown = λ e. first-shown r (p .first) (at-first e);
       last-shown = λ e. last-shown F p n j r h t (subst (λ (t : ℕ). At F (p .curve) n j t r) e o);
@@ -68,4 +70,8 @@ stands F p n j q r h t o =
 pub in-numbers : (D : Degree) (p : Control D) (q : ℕ) (r : Registers) → Stands 11 (course D p) q r → InNumbers D p q r
 unfolding exact
 in-numbers D p q r s =
-    record { fits = s .fits; near = s .near; start = s .first; first-shown = s .first-shown; last-shown = s .last-shown; shown = s .shown }
+    record { fits = s .fits; near = s .near; close = s .close; start = s .first; first-shown = s .first-shown; last-shown = s .last-shown; shown = s .shown }
+
+-- order 13: at F = 11 less than one sixteenth of a unit, 4,096
+pub sixteenth : (p : Course) (q : ℕ) (r : Registers) → Stands 11 p q r → off 11 (p .curve) q (r .d) < 4096 * 2 ^ 33
+sixteenth p q r s = below 11 4096 (lit≤ tt) (s .close)

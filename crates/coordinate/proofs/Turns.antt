@@ -16,7 +16,7 @@ use Rattle.coordinate.specs.declared.Registers.{Registers}
 use Rattle.coordinate.specs.Curve.{Curve}
 use Rattle.coordinate.specs.Registers.{halve, double, step, turn, startRegisters, unit, _>>_}
 use Rattle.coordinate.proofs.Back.{halve-after-double}
-use Rattle.coordinate.proofs.Exact.{alpha, drift, alphaOf, lagOf, missOf, placeE, step-lag-low, step-lag-high, step-miss, step-low, step-high, drift-low, drift-high, start-low, start-high}
+use Rattle.coordinate.proofs.Exact.{alpha, drift, alphaOf, lagOf, missOf, placeE, driftE, step-lag-low, step-lag-high, step-miss, step-low, step-high, drift-low, drift-high, start-low, start-high}
 use Rattle.coordinate.proofs.Refined.{Exactly, halve-exact, double-exact, step-exact, refined, next-levels, Bracket, bracket}
 
 -- G = 2^F and κ·G = 65,536; the level is n, with j finer ones below it
@@ -30,8 +30,8 @@ pub record On (κ G : ℕ) (f : Curve) (n j q : ℕ) (r : Registers) : Type 0 wh
       ≤ℤ lagOf κ G f 1 q (refined j n r .c)
   pub c-high : lagOf κ G f 1 q (refined j n r .c)
       ≤ℤ ((pos q +ℤ pos G -ℤ pos 1) *ℤ pos G *ℤ pos G)
-  pub d-low : (pos 0 -ℤ drift (pos G) (pos q)) ≤ℤ missOf κ G f q (r .d)
-  pub d-high : missOf κ G f q (r .d) ≤ℤ drift (pos G) (pos q)
+  pub d-low : (pos 0 -ℤ drift (pos G) (pos q)) ≤ℤ (pos 2 *ℤ missOf κ G f q (r .d))
+  pub d-high : (pos 2 *ℤ missOf κ G f q (r .d)) ≤ℤ drift (pos G) (pos q)
 
 module _ (κ G : ℕ) (f : Curve) where
   -- ---- halve and double
@@ -77,6 +77,9 @@ module _ (κ G : ℕ) (f : Curve) where
     abbrev lag-next : ℤ
     lag-next = lagOf κ G f (2 ^ j) (q + 2 ^ j) (turn step n r .c)
 
+    abbrev miss-now : ℤ
+    miss-now = missOf κ G f q (r .d)
+
     now : Bracket κ G f n j q r
     now = bracket κ G f q n j r (o .levels) (o .exact)
 
@@ -99,7 +102,7 @@ module _ (κ G : ℕ) (f : Curve) where
         (subst (λ (b : ℤ). b ≤ℤ (pos (2 ^ n) *ℤ (r .b >> n) +ℤ pos (2 ^ n) -ℤ pos 1)) (o .exact .b) (floor-high (r .b) (2 ^ n) (pow-pos n)))
 
     miss-next : missOf κ G f (q + 2 ^ j) (turn step n r .d)
-        ≡ missOf κ G f q (r .d) +ℤ pos (2 ^ j) *ℤ lag-now -ℤ pos (2 ^ j) *ℤ pos G *ℤ pos G *ℤ (r .c -ℤ pos (2 ^ n) *ℤ (r .c >> n))
+        ≡ miss-now +ℤ pos (2 ^ j) *ℤ lag-now -ℤ pos (2 ^ j) *ℤ pos G *ℤ pos G *ℤ (r .c -ℤ pos (2 ^ n) *ℤ (r .c >> n))
     unfolding turn
     miss-next =
         step-miss (pos κ) (pos (2 ^ n)) (pos (2 ^ j)) (f .A) (f .B) (f .C) (f .D) (pos q) (r .c) (r .d) (r .c >> n) (pos G) levels-are
@@ -116,11 +119,11 @@ module _ (κ G : ℕ) (f : Curve) where
           c-high = step-high (pos q) (pos (2 ^ j)) (pos G) _ _ lag-now _ (nat G) (after .high) falls (now .low) (o .c-high);
           d-low =
               rw miss-next
-              (drift-low (pos (2 ^ n)) (pos (2 ^ j)) (pos q) (r .c) (r .c >> n) (pos G) _ lag-now _ levels-are (nat (2 ^ j)) (less (pow-pos j)) (nat q) (nat G)
+              (drift-low (pos (2 ^ n)) (pos (2 ^ j)) (pos q) (r .c) (r .c >> n) (pos G) _ lag-now miss-now levels-are (less (pow-pos n)) (nat (2 ^ j)) (less (pow-pos j)) (nat G)
               (o .d-low) (o .c-low) (now .high) (floor-high (r .c) (2 ^ n) (pow-pos n)));
           d-high =
               rw miss-next
-              (drift-high (pos (2 ^ n)) (pos (2 ^ j)) (pos q) (r .c) (r .c >> n) (pos G) _ lag-now _ (nat (2 ^ j)) (nat q) (nat G)
+              (drift-high (pos (2 ^ n)) (pos (2 ^ j)) (pos q) (r .c) (r .c >> n) (pos G) _ lag-now miss-now (nat (2 ^ j)) (nat G)
               (o .d-high) (o .c-high) (now .low) (floor-low (r .c) (2 ^ n) (pow-pos n)));
         }
 
@@ -164,7 +167,7 @@ module _ (κ G : ℕ) (f : Curve) where
     start-bracket = bracket κ G f 0 n j (startRegisters n f) e start-exact
 
     at-zero : (G' : ℤ) → drift G' (pos 0) ≡ pos 0
-    at-zero = ring 1 (λ G. ((# 0 :* # 0 :+ # 0 :* G :- # 0) :* G :* G, # 0)) tt
+    at-zero = ring 1 (λ G. (driftE G (# 0), # 0)) tt
 
     start-miss : missOf κ G f 0 (startRegisters n f .d) ≡ pos 0
     unfolding startRegisters

@@ -37,3 +37,7 @@ exact F f q =
     +ℤ f .B *ℤ pos (q * q * 2 ^ F)
     +ℤ f .C *ℤ pos (q * 2 ^ (2 * F))
     +ℤ f .D *ℤ pos (2 ^ (3 * F))
+
+-- how far d, in 65,536ths of a unit, is from it there, times 2^(3F)
+abbrev pub off : ℕ → Curve → ℕ → ℤ → ℕ
+off F f q d = natAbs (d *ℤ pos (2 ^ (3 * F)) -ℤ pos 65536 *ℤ exact F f q)

@@ -5,3 +5,4 @@ pub mod Back
 pub mod Choice
 pub mod Touching
 pub mod Demand3
+pub mod Sixteenth

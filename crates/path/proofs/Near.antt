@@ -1,16 +1,16 @@
--- Every entry of an accepted path is near the exact curve at its position: half a unit farther than demand 3 lets the registers be.
+-- Every entry of an accepted path is near the exact curve at its position: at most half a unit farther than the registers are.
 use mathlib.Core.Path.{_≡_, sym, ap, ap₂, _∙_, subst}
 use mathlib.Core.List.{List}
 use Prim.Native.Nat.{ℕ, zero, suc, _+_, _*_, _-_, _^_, _≤_, _<_}
 use native.Mathlib.Nat.{mul-le-mul-left}
 use native.Mathlib.Omega.{arith}
 use lib.Dec.{leb}
-use lib.IntN.{ℤ, pos, _*ℤ_}
+use lib.IntN.{ℤ, pos, natAbs, _-ℤ_, _*ℤ_}
 use lib.Pow.{pow-pos}
 use borrow.Author.Tests.{leb-true, leb-false}
 use Rattle.rules.specs.declared.Degree.{Degree}
 use Rattle.coordinate.specs.Control.{Control}
-use Rattle.coordinate.specs.Curve.{curve, exact}
+use Rattle.coordinate.specs.Curve.{curve, exact, off}
 use Rattle.coordinate.specs.Shown.{pixel}
 use Rattle.coordinate.proofs.Bernstein.{starts, ends}
 use Rattle.coordinate.proofs.Half.{shown-near}
@@ -21,7 +21,7 @@ use Rattle.distance.specs.Calls.{after}
 use Rattle.entries.specs.declared.Entry.{Entry}
 use Rattle.path.specs.Path.{Path, place, controls, courses}
 use Rattle.path.specs.Entries.{entry}
-use Rattle.path.specs.Listed.{begins, Placed, Within, Near, NearInNumbers}
+use Rattle.path.specs.Listed.{begins, Placed, Near, NearInNumbers}
 use Rattle.path.proofs.Points.{segment-uses, first-point, last-point}
 use Rattle.path.proofs.Turns.{by-test}
 
@@ -78,7 +78,8 @@ placed-near p e l =
       position = ap (λ (f : Entry). f .position) (l .shown);
       inside = further (2 ^ F) (l .k) (d .q) (p .segments) within (l .segment);
       near = λ k q _ h same c.
-          subst (λ (y : ℤ). Within F (32768 + 3 * 2 ^ F) y (pick (e .x) (e .y) (e .width) c)) (exact-same (p .degree) F (p .points) c (l .k) (d .q) k q within h same)
+          subst (λ (y : ℤ). 2 * natAbs (pos 65536 *ℤ pick (e .x) (e .y) (e .width) c *ℤ pos (2 ^ (3 * F)) -ℤ pos 65536 *ℤ y) < (65536 + 3 * 2 ^ F) * 2 ^ (3 * F))
+          (exact-same (p .degree) F (p .points) c (l .k) (d .q) k q within h same)
           (rw (number c) (shown-near F (courses (p .degree) (p .points) (l .k) c) (d .q) (of c d) (l .demand .stands c)));
     }
   where
@@ -94,9 +95,13 @@ near-in-numbers p e f n =
       position = n .position;
       inside = subst (λ (F : ℕ). n .at ≤ 2 ^ F * p .segments) f (n .inside);
       near = λ k q s h l c.
-          subst (λ (g : Control (p .degree)). Within 11 38912 (exact 11 (curve (p .degree) g) q) (pick (e .x) (e .y) (e .width) c)) (segment-uses (p .degree) (p .points) k c)
+          subst (λ (g : Control (p .degree)). off 11 (curve (p .degree) g) q (pos 65536 *ℤ pick (e .x) (e .y) (e .width) c) < 35840 * 2 ^ 33) (segment-uses (p .degree) (p .points) k c)
+          (halved
           (subst
           (λ (F : ℕ). q ≤ 2 ^ F → n .at ≡ 2 ^ F * k + q
-          → Within F (32768 + 3 * 2 ^ F) (exact F (courses (p .degree) (p .points) k c .curve) q) (pick (e .x) (e .y) (e .width) c))
-          f (λ h l. n .near k q s h l c) h l);
+          → 2 * off F (courses (p .degree) (p .points) k c .curve) q (pos 65536 *ℤ pick (e .x) (e .y) (e .width) c) < (65536 + 3 * 2 ^ F) * 2 ^ (3 * F))
+          f (λ h l. n .near k q s h l c) h l));
     }
+  where
+    halved : {m : ℕ} → 2 * m < 71680 * 2 ^ 33 → m < 35840 * 2 ^ 33
+    halved h = omega arith

@@ -19,14 +19,16 @@ use Rattle.operations.specs.ThreeRules.{Rule1}
 use Rattle.engine.specs.declared.Drawing.{Drawing}
 use Rattle.engine.specs.declared.Moved.{Moved}
 use Rattle.engine.specs.Drawing.{of, turned}
-use Rattle.distance.specs.Calls.{after}
+use Rattle.distance.specs.Calls.{after, travelled}
+use Rattle.distance.specs.Demand3.{Demand3}
 use Rattle.distance.proofs.Touching.{touches}
 use Rattle.distance.proofs.Demand3.{demand-3}
+use Rattle.distance.proofs.Sixteenth.{sixteenth-of}
 use Rattle.entries.specs.declared.Entry.{Entry}
 use Rattle.entries.specs.Entries.{Linked, lastOf}
 use Rattle.path.specs.Path.{Path, pathRefusal, pointAt, place, controls, courses}
 use Rattle.path.specs.Entries.{entry, rest}
-use Rattle.path.specs.Listed.{corner, Follows, Placed}
+use Rattle.path.specs.Listed.{begins, corner, Follows, Placed}
 use Rattle.path.proofs.Accepted.{segment-accepted}
 use Rattle.path.proofs.Points.{first-point, last-point}
 use Rattle.path.proofs.Segments.{Of, Sound, begun-first, Held}
@@ -105,12 +107,16 @@ module _ (p : Path) (k : ℕ) (s : Sound p k) where
     pub placed-at : (d : Drawing) → Held p k d → Placed p (entry F k d)
     placed-at d held =
         let start = ap (λ (m : Moved). m .drawing) (begun-first p e k l) in
+        let demand = demand-3 (p .degree) F (controls (p .degree) (p .points) k) (p .level) (segment-accepted p e k l) (held .calls) in
         record {
           k = k;
           segment = l;
           calls = held .calls;
           shown = sym (ap (λ (s : Drawing). entry F k (after (held .calls) s)) start ∙ ap (entry F k) (held .reached));
-          demand = demand-3 (p .degree) F (controls (p .degree) (p .points) k) (p .level) (segment-accepted p e k l) (held .calls);
+          demand = demand;
+          sixteenth = λ f _.
+              sixteenth-of (courses (p .degree) (p .points) k) _ _
+              (subst (λ (G : ℕ). Demand3 G (courses (p .degree) (p .points) k) (after (held .calls) (begins p k)) (travelled (held .calls) (begins p k))) f demand);
         }
 
     pub span-placed : (d : Drawing) → Held p k d → All (Placed p) (rest p k d)

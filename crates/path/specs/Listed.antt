@@ -10,13 +10,14 @@ use Rattle.rules.specs.declared.Degree.{Degree}
 use Rattle.rules.specs.declared.Degree.the-variants.{Quadratic, Cubic}
 use Rattle.rules.specs.Rules.{degree}
 use Rattle.coordinate.specs.Control.{Control}
-use Rattle.coordinate.specs.Curve.{curve, exact}
+use Rattle.coordinate.specs.Curve.{curve, exact, off}
 use Rattle.coordinate.specs.Registers.{Operation}
 use Rattle.operations.specs.Coordinates.{Coordinate, in-x, in-y, in-width, pick}
 use Rattle.engine.specs.declared.Drawing.{Drawing}
 use Rattle.engine.specs.Start.{started}
 use Rattle.distance.specs.Calls.{after, travelled}
 use Rattle.distance.specs.Demand3.{Demand3}
+use Rattle.distance.specs.Sixteenth.{Sixteenth}
 use Rattle.entries.specs.declared.Entry.{Entry}
 use Rattle.entries.specs.Entries.{flat, Among, Linked, lastOf}
 use Rattle.entries.specs.Length.{lengthOf}
@@ -45,26 +46,25 @@ pub record Follows (e f : Entry) : Type 0 where
   pub y : natAbs (f .y -ℤ e .y) ≤ 1
 
 -- an entry stands at its parameter: it is the point shown of a drawing that calls lead to from the start of segment k, and of that drawing
--- demand 3 holds
+-- demand 3 holds, and on a cubic path at F = 11 order 13
 pub record Placed (p : Path) (e : Entry) : Type 0 where
   pub k : ℕ
   pub segment : k < p .segments
   pub calls : List Operation
   pub shown : e ≡ entry (p .finest) k (after calls (begins p k))
   pub demand : Demand3 (p .finest) (courses (p .degree) (p .points) k) (after calls (begins p k)) (travelled calls (begins p k))
-
--- z is less than m 65,536ths of a unit from y / 2^(3F)
-abbrev pub Within : ℕ → ℕ → ℤ → ℤ → Type 0
-Within F m y z = natAbs (pos 65536 *ℤ z *ℤ pos (2 ^ (3 * F)) -ℤ pos 65536 *ℤ y) < m * 2 ^ (3 * F)
+  pub sixteenth : p .finest ≡ 11 → p .degree ≡ Cubic
+      → Sixteenth (λ c. courses (p .degree) (p .points) k c .curve) (after calls (begins p k)) (travelled calls (begins p k))
 
 -- An entry stands where its position says: wherever that is 2^F·k + q, at a join for both segments, x, y and the width are less than half a unit and
--- 3·2^F 65,536ths from the exact curve of segment k at t = q / 2^F.
+-- one and a half 2^F 65,536ths from the exact curve of segment k at t = q / 2^F.
 pub record Near (p : Path) (e : Entry) : Type 0 where
   pub at : ℕ
   pub position : e .position ≡ pos at
   pub inside : at ≤ 2 ^ p .finest * p .segments
   pub near : (k q : ℕ) → k < p .segments → q ≤ 2 ^ p .finest → at ≡ 2 ^ p .finest * k + q → (c : Coordinate)
-      → Within (p .finest) (32768 + 3 * 2 ^ p .finest) (exact (p .finest) (courses (p .degree) (p .points) k c .curve) q) (pick (e .x) (e .y) (e .width) c)
+      → 2 * off (p .finest) (courses (p .degree) (p .points) k c .curve) q (pos 65536 *ℤ pick (e .x) (e .y) (e .width) c)
+      < (65536 + 3 * 2 ^ p .finest) * 2 ^ (3 * p .finest)
 
 pub record Listed (p : Path) : Type 0 where
   -- the list starts at the path's first control point, ends at its last, and has control point Dk at each 2^F·k
@@ -107,14 +107,14 @@ abbrev pub cornerOf : Degree → ℕ → ℕ
 cornerOf Quadratic k = 2 * k
 cornerOf Cubic k = 3 * k
 
--- Position is 2,048·k + q; half a unit and 6,144 are 38,912. `exact 11 f q` is A·q³ + B·q²·2^11 + C·q·2^22 + D·2^33.
+-- Position is 2,048·k + q; half a unit and 3,072 are 35,840. `exact 11 f q` is A·q³ + B·q²·2^11 + C·q·2^22 + D·2^33.
 pub record NearInNumbers (p : Path) (e : Entry) : Type 0 where
   pub at : ℕ
   pub position : e .position ≡ pos at
   pub inside : at ≤ 2048 * p .segments
   pub near : (k q : ℕ) → k < p .segments → q ≤ 2048 → at ≡ 2048 * k + q → (c : Coordinate)
       → natAbs (pos 65536 *ℤ pick (e .x) (e .y) (e .width) c *ℤ pos (2 ^ 33) -ℤ pos 65536 *ℤ exact 11 (curve (p .degree) (segmentPoints (p .degree) (p .points) (pick 0 1 2 c) k)) q)
-      < 38912 * 2 ^ 33
+      < 35840 * 2 ^ 33
 
 -- the corners stand at 2,048·k, every entry is near the exact curve, and the most points and length
 pub record InNumbers (p : Path) : Type 0 where
