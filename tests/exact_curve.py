@@ -17,9 +17,17 @@ from model.path import Shape, path_entries
 from model.points import Point, flat
 from model.rules import reach
 
-# A distance from the exact curve is less than this, in 65,536ths: by F
-DISTANCES = {6: 192, 7: 384, 8: 768, 9: 1_536, 10: 3_072, 11: 6_144,
-             12: 12_288}
+# Twice a distance from the exact curve is at most this, in 65,536ths: by F
+TWICE_DISTANCES = {6: 191, 7: 383, 8: 767, 9: 1_535, 10: 3_071, 11: 6_143,
+                   12: 12_287}
+
+# The farthest from it that a cubic gets with all steps at level F, at its end:
+# by F the control points of a coordinate and that distance in 65,536ths, from
+# a search of all A and B (docs/PROOFS.md)
+FARTHEST = {6: ([0, -19, 1, -19], 32), 7: ([0, -42, 0, -42], 64),
+            8: ([0, -84, 0, -84], 128), 9: ([0, 86, -84, -227], 341),
+            10: ([0, 285, -55, -363], 785), 11: ([0, 579, 1_126, 444], 1_626),
+            12: ([0, 426, 426, -1], 3_255)}
 
 
 def random_curves(chance, number):
@@ -111,7 +119,8 @@ def check_drawing(tally, curve, calls, refusals):
         farthest = max(farthest, distance(points, drawing))
         met.add(refusal)
     tally.holds(f"{curve} near the exact curve",
-                farthest < Fraction(DISTANCES[finest], 65_536), farthest)
+                2 * farthest <= Fraction(TWICE_DISTANCES[finest], 65_536),
+                farthest)
     tally.holds(f"refusals of {curve}", met <= refusals, met)
     if drawing.q == last_position(finest):
         tally.equal(f"{curve} at its end", shown(drawing), Point(*points[-1]))
@@ -131,6 +140,16 @@ def check_extremes(tally):
     for curve in extreme_curves():
         for level in (curve[2], 0):
             check_drawing(tally, curve, lambda one: by_steps(one, level), {0})
+
+
+def check_farthest(tally):
+    """Some drawings do get as far as they were seen to."""
+    for finest, (values, farthest) in FARTHEST.items():
+        points = [(value, value, value) for value in values]
+        curve = CUBIC, points, finest, finest
+        *_, (_, drawing) = by_steps(started(*curve), finest)
+        tally.equal(f"{curve} at its end", distance(points, drawing),
+                    Fraction(farthest, 65_536))
 
 
 # Lists

@@ -18,7 +18,8 @@ from chance import (FINEST_LEVELS, random_degree, random_finest, random_level,
 from document_cases import (CASES, FINEST, LISTING, OLD_SHEET, SHEET,
                             SHEET_NUMBERS)
 from exact_curve import (check_as_cubics, check_distance, check_extremes,
-                         check_lists, check_positions, check_start)
+                         check_farthest, check_lists, check_positions,
+                         check_start)
 from finest_cases import CASES as FINEST_CASES
 from makers import (LONGEST, LONGEST_QUADRATICS, LONGEST_SEGMENTS,
                     MOST_QUADRATICS, cubic, number_list, on_x, point,
@@ -381,7 +382,7 @@ def main():
                   check_proved, check_choosing, check_edges, check_start,
                   check_paths, check_path_order, check_reading, check_longest,
                   check_writing, check_spoilt, check_distance,
-                  check_extremes, check_lists, check_positions,
+                  check_extremes, check_farthest, check_lists, check_positions,
                   check_as_cubics, check_widths, check_old_form, check_marks):
         check(tally)
     sys.exit(tally.end())

@@ -101,11 +101,21 @@ module _ (κ G : ℕ) (f : Curve) where
         step-lag-low (pos κ) (pos (2 ^ n)) (pos (2 ^ j)) (f .A) (f .B) (f .C) (pos q) (r .c) (r .b >> n) (pos G) levels-are (nat (2 ^ j)) (nat G)
         (subst (λ (b : ℤ). b ≤ℤ (pos (2 ^ n) *ℤ (r .b >> n) +ℤ pos (2 ^ n) -ℤ pos 1)) (o .exact .b) (floor-high (r .b) (2 ^ n) (pow-pos n)))
 
+    -- d gains the floor of c / 2^n, which is at most that and less than 1 below it
+    abbrev rise : ℤ
+    rise = r .c >> n
+
+    rise-low : r .c ≤ℤ (pos (2 ^ n) *ℤ rise +ℤ pos (2 ^ n) -ℤ pos 1)
+    rise-low = floor-high (r .c) (2 ^ n) (pow-pos n)
+
+    rise-high : (pos (2 ^ n) *ℤ rise) ≤ℤ r .c
+    rise-high = floor-low (r .c) (2 ^ n) (pow-pos n)
+
     miss-next : missOf κ G f (q + 2 ^ j) (turn step n r .d)
-        ≡ miss-now +ℤ pos (2 ^ j) *ℤ lag-now -ℤ pos (2 ^ j) *ℤ pos G *ℤ pos G *ℤ (r .c -ℤ pos (2 ^ n) *ℤ (r .c >> n))
+        ≡ miss-now +ℤ pos (2 ^ j) *ℤ lag-now -ℤ pos (2 ^ j) *ℤ pos G *ℤ pos G *ℤ (r .c -ℤ pos (2 ^ n) *ℤ rise)
     unfolding turn
     miss-next =
-        step-miss (pos κ) (pos (2 ^ n)) (pos (2 ^ j)) (f .A) (f .B) (f .C) (f .D) (pos q) (r .c) (r .d) (r .c >> n) (pos G) levels-are
+        step-miss (pos κ) (pos (2 ^ n)) (pos (2 ^ j)) (f .A) (f .B) (f .C) (f .D) (pos q) (r .c) (r .d) rise (pos G) levels-are
 
     pub step-on : q < G → On κ G f n j (q + 2 ^ j) (turn step n r)
     step-on h =
@@ -119,12 +129,12 @@ module _ (κ G : ℕ) (f : Curve) where
           c-high = step-high (pos q) (pos (2 ^ j)) (pos G) _ _ lag-now _ (nat G) (after .high) falls (now .low) (o .c-high);
           d-low =
               rw miss-next
-              (drift-low (pos (2 ^ n)) (pos (2 ^ j)) (pos q) (r .c) (r .c >> n) (pos G) _ lag-now miss-now levels-are (less (pow-pos n)) (nat (2 ^ j)) (less (pow-pos j)) (nat G)
-              (o .d-low) (o .c-low) (now .high) (floor-high (r .c) (2 ^ n) (pow-pos n)));
+              (drift-low (pos (2 ^ n)) (pos (2 ^ j)) (pos q) (r .c) rise (pos G) _ lag-now miss-now levels-are (less (pow-pos n)) (nat (2 ^ j)) (less (pow-pos j)) (nat G)
+              (o .d-low) (o .c-low) (now .high) rise-low);
           d-high =
               rw miss-next
-              (drift-high (pos (2 ^ n)) (pos (2 ^ j)) (pos q) (r .c) (r .c >> n) (pos G) _ lag-now miss-now (nat (2 ^ j)) (nat G)
-              (o .d-high) (o .c-high) (now .low) (floor-low (r .c) (2 ^ n) (pow-pos n)));
+              (drift-high (pos (2 ^ n)) (pos (2 ^ j)) (pos q) (r .c) rise (pos G) _ lag-now miss-now (nat (2 ^ j)) (nat G)
+              (o .d-high) (o .c-high) (now .low) rise-high);
         }
 
   -- ---- the start
