@@ -2,9 +2,10 @@
 use mathlib.Core.Path.{_≡_, subst}
 use mathlib.Core.List.{List}
 use Prim.Native.Nat.{ℕ, _*_, _^_, _<_}
+use native.Mathlib.Omega.{arith}
 use Rattle.rules.specs.declared.Degree.the-variants.{Cubic}
 use Rattle.coordinate.specs.Control.{Control}
-use Rattle.coordinate.specs.Curve.{curve, off}
+use Rattle.coordinate.specs.Curve.{Curve, curve, off}
 use Rattle.coordinate.specs.Course.{Course, course}
 use Rattle.coordinate.specs.Registers.{Operation}
 use Rattle.coordinate.proofs.Stands as coordinate
@@ -28,3 +29,10 @@ sixteenth-of p d along t =
 pub sixteenth : (p : Coordinate → Control Cubic) (n : ℕ) → startRefusal Cubic 11 p n ≡ 0 → (ops : List Operation)
     → let d = started Cubic 11 p n .drawing in Sixteenth (λ c. curve Cubic (p c)) (after ops d) (travelled ops d)
 sixteenth p n e ops = sixteenth-of (λ c. course Cubic (p c)) _ _ (demand-3 Cubic 11 p n e ops)
+
+-- of each coordinate, sixteen times the distance is less than a unit
+pub sixteen-times : (f : Coordinate → Curve) (d : Drawing) (along : ℕ) → Sixteenth f d along → (c : Coordinate)
+    → 16 * off 11 (f c) along (of c d .d) < 65536 * 2 ^ 33
+sixteen-times f d along s in-x = omega arith
+sixteen-times f d along s in-y = omega arith
+sixteen-times f d along s in-width = omega arith
