@@ -6,7 +6,7 @@ all of them none gets farther than tests/exact_curve.py has it.
 """
 import sys
 
-import above                # for what follows from `model`
+import above                # the folder of `model`
 from exact_curve import FARTHEST
 from model.constants import CUBIC
 from model.drawing import last_position, start_registers

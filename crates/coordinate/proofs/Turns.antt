@@ -16,6 +16,7 @@ use Rattle.coordinate.specs.declared.Registers.{Registers}
 use Rattle.coordinate.specs.Curve.{Curve}
 use Rattle.coordinate.specs.Registers.{halve, double, step, turn, startRegisters, unit, _>>_}
 use Rattle.coordinate.proofs.Back.{halve-after-double}
+use Rattle.coordinate.proofs.Floors.{Floor, shift-is-floor}
 use Rattle.coordinate.proofs.Exact.{alpha, drift, alphaOf, lagOf, missOf, placeE, driftE, step-lag-low, step-lag-high, step-miss, step-low, step-high, drift-low, drift-high, start-low, start-high}
 use Rattle.coordinate.proofs.Refined.{Exactly, halve-exact, double-exact, step-exact, refined, next-levels, Bracket, bracket}
 
@@ -101,15 +102,12 @@ module _ (κ G : ℕ) (f : Curve) where
         step-lag-low (pos κ) (pos (2 ^ n)) (pos (2 ^ j)) (f .A) (f .B) (f .C) (pos q) (r .c) (r .b >> n) (pos G) levels-are (nat (2 ^ j)) (nat G)
         (subst (λ (b : ℤ). b ≤ℤ (pos (2 ^ n) *ℤ (r .b >> n) +ℤ pos (2 ^ n) -ℤ pos 1)) (o .exact .b) (floor-high (r .b) (2 ^ n) (pow-pos n)))
 
-    -- d gains the floor of c / 2^n, which is at most that and less than 1 below it
+    -- what d gains
     abbrev rise : ℤ
     rise = r .c >> n
 
-    rise-low : r .c ≤ℤ (pos (2 ^ n) *ℤ rise +ℤ pos (2 ^ n) -ℤ pos 1)
-    rise-low = floor-high (r .c) (2 ^ n) (pow-pos n)
-
-    rise-high : (pos (2 ^ n) *ℤ rise) ≤ℤ r .c
-    rise-high = floor-low (r .c) (2 ^ n) (pow-pos n)
+    rise-floor : Floor (r .c) (2 ^ n) rise
+    rise-floor = shift-is-floor (r .c) n
 
     miss-next : missOf κ G f (q + 2 ^ j) (turn step n r .d)
         ≡ miss-now +ℤ pos (2 ^ j) *ℤ lag-now -ℤ pos (2 ^ j) *ℤ pos G *ℤ pos G *ℤ (r .c -ℤ pos (2 ^ n) *ℤ rise)
@@ -130,11 +128,11 @@ module _ (κ G : ℕ) (f : Curve) where
           d-low =
               rw miss-next
               (drift-low (pos (2 ^ n)) (pos (2 ^ j)) (pos q) (r .c) rise (pos G) _ lag-now miss-now levels-are (less (pow-pos n)) (nat (2 ^ j)) (less (pow-pos j)) (nat G)
-              (o .d-low) (o .c-low) (now .high) rise-low);
+              (o .d-low) (o .c-low) (now .high) (rise-floor .high));
           d-high =
               rw miss-next
               (drift-high (pos (2 ^ n)) (pos (2 ^ j)) (pos q) (r .c) rise (pos G) _ lag-now miss-now (nat (2 ^ j)) (nat G)
-              (o .d-high) (o .c-high) (now .low) rise-high);
+              (o .d-high) (o .c-high) (now .low) (rise-floor .low));
         }
 
   -- ---- the start

@@ -9,6 +9,7 @@ use lib.IntN.{ℤ, pos, natAbs, _-ℤ_, _*ℤ_}
 use lib.Pow.{pow-pos}
 use borrow.Author.Tests.{leb-true, leb-false}
 use Rattle.rules.specs.declared.Degree.{Degree}
+use Rattle.rules.specs.declared.Degree.the-variants.{Cubic}
 use Rattle.coordinate.specs.Control.{Control}
 use Rattle.coordinate.specs.Curve.{curve, exact, off}
 use Rattle.coordinate.specs.Shown.{pixel}
@@ -17,7 +18,8 @@ use Rattle.coordinate.proofs.Half.{shown-near}
 use Rattle.operations.specs.Coordinates.{Coordinate, in-x, in-y, in-width, pick}
 use Rattle.operations.proofs.Gates.{inside}
 use Rattle.engine.specs.Drawing.{of}
-use Rattle.distance.specs.Calls.{after}
+use Rattle.distance.specs.Calls.{after, travelled}
+use Rattle.distance.proofs.Sixteenth.{sixteen-times}
 use Rattle.entries.specs.declared.Entry.{Entry}
 use Rattle.path.specs.Path.{Path, place, controls, courses}
 use Rattle.path.specs.Entries.{entry}
@@ -105,3 +107,8 @@ near-in-numbers p e f n =
   where
     halved : {m : ℕ} → 2 * m < 71680 * 2 ^ 33 → m < 35840 * 2 ^ 33
     halved h = omega arith
+
+-- order 13 of every entry of a cubic path at F = 11: sixteen times the distance of its drawing is less than a unit, in each coordinate
+pub placed-sixteenth : (p : Path) (e : Entry) (l : Placed p e) → p .finest ≡ 11 → p .degree ≡ Cubic → (c : Coordinate)
+    → let d = begins p (l .k) in 16 * off 11 (courses (p .degree) (p .points) (l .k) c .curve) (travelled (l .calls) d) (of c (after (l .calls) d) .d) < 65536 * 2 ^ 33
+placed-sixteenth p e l f cubic c = sixteen-times (λ c. courses (p .degree) (p .points) (l .k) c .curve) _ _ (l .sixteenth f cubic) c
