@@ -18,7 +18,7 @@ LEAST_FINEST, MOST_FINEST = 6, 12   # the finest level F of a drawing
 SHEET_FINEST = 11                   # F of every path on a sheet
 LEAST, MOST = -2**31, 2**31 - 1     # a register: a signed 32-bit number
 ONE_UNIT = 65_536                   # registers and limits are in these parts
-STANDARD_LIMITS = ONE_UNIT, ONE_UNIT // 2
+STANDARD_LIMITS = 45_875, 22_937    # upper and lower, where none are named
 
 # Paths and sheets
 

@@ -6,7 +6,8 @@ crates/operations/proofs/Cases.antt, as far as an entry answers them, and the
 half of an odd a; most are drawings that a caller made up. Where a row names no
 finest level it is 11.
 """
-from document_cases import FINEST, LIMITS, drawing
+from document_cases import FINEST, drawing
+from makers import LIMITS
 from model.constants import LEAST, MOST
 from model.points import flat
 from probe_model import OPERATION_NAMES

@@ -5,11 +5,11 @@ It comes from the random.Random that is handed in, so that a seed decides it.
 """
 from itertools import product
 
-from makers import point
+from makers import LIMITS, point
 from model.constants import (CUBIC, DEGREES, FARTHEST, HIGHEST, LEAST,
                              LEAST_FINEST, LOWEST, MOST, MOST_FINEST,
                              MOST_SEGMENTS, ONE_UNIT, POINT_NUMBERS, QUADRATIC,
-                             QUADRATIC_MARK, SHEET_FINEST, STANDARD_LIMITS)
+                             QUADRATIC_MARK, SHEET_FINEST)
 from model.points import points_in
 from model.rules import reach
 from model.sheet import Path
@@ -87,9 +87,9 @@ GOOD_LIMITS = [(1, 0), (1, 1), (ONE_UNIT, 0), (ONE_UNIT, ONE_UNIT),
 
 
 def random_limits(chance):
-    """Upper and lower: the standard ones, ones at the ends, or any."""
+    """Upper and lower: those of most tests, ones at the ends, or any."""
     upper = chance.randint(1, ONE_UNIT)
-    return chance.choice([STANDARD_LIMITS, chance.choice(GOOD_LIMITS),
+    return chance.choice([LIMITS, chance.choice(GOOD_LIMITS),
                           (upper, chance.randint(0, upper))])
 
 

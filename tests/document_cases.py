@@ -31,7 +31,6 @@ path 0 points 5 length 3000
 SHEET_NUMBERS = [1, 65_536, 32_768, 1, 0, 0, 0, 0, 1, 0, 0, 2, 0, 0, 3, 0, 0]
 
 FINEST = 11
-LIMITS = [65_536, 32_768]
 
 
 def on_x(*values):
@@ -52,7 +51,7 @@ def drawn(letter, level, xs, positions, drawn_xs, length):
     """A path of one segment, drawn with as much room as it needs."""
     entries = flat([position, *on_x(x)]
                    for position, x in zip(positions, drawn_xs))
-    words = [len(entries), CUBIC, 1, FINEST, level, *LIMITS, *on_x(*xs)]
+    words = [len(entries), CUBIC, 1, FINEST, level, *makers.LIMITS, *on_x(*xs)]
     return letter, "draw", words, line([0, len(positions), length, *entries])
 
 

@@ -4,8 +4,8 @@ level F, and at some that are none.
 CASES has (what is tried, name of the request, argument words, answer line).
 Where nothing else is said curves are cubics.
 """
-from document_cases import LIMITS, NO_DRAWING, TWELVE, drawing, on_x
-from makers import on_width
+from document_cases import NO_DRAWING, TWELVE, drawing, on_x
+from makers import LIMITS, on_width
 from model.constants import CUBIC
 from model.points import flat
 from probe_model import OPERATION_NAMES

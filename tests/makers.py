@@ -1,12 +1,15 @@
-"""Makers of paths, and of sheets and number lists with standard limits.
+"""Makers of paths, and of sheets and number lists.
 
 A path is the model's, and a cubic where nothing else is said. A point may be
-given by its first coordinates: the others are 0.
+given by its first coordinates: the others are 0. Upper and lower of a sheet
+are LIMITS: named, so that they stay whatever an entry without limits uses.
 """
 from model.constants import (CUBIC, MOST_PATHS, MOST_SEGMENTS, POINT_NUMBERS,
-                             QUADRATIC, SHEET_FINEST, STANDARD_LIMITS)
+                             QUADRATIC, SHEET_FINEST)
 from model.points import points_in
 from model.sheet import Path, sheet_bytes, sheet_numbers
+
+LIMITS = 65_536, 32_768
 
 
 def point(*values):
@@ -58,11 +61,11 @@ def jump(segments, after, *move, degree=CUBIC):
 # Sheets and number lists
 
 def sheet(*paths):
-    return sheet_bytes(*STANDARD_LIMITS, paths)
+    return sheet_bytes(*LIMITS, paths)
 
 
 def number_list(*paths):
-    return sheet_numbers(*STANDARD_LIMITS, paths)
+    return sheet_numbers(*LIMITS, paths)
 
 
 # Of each degree as many paths as a sheet may have, at every level: of cubics

@@ -8,8 +8,8 @@ of many requests, by the name of the entry:
                     broken with 11 in the place of F; 0 for none
     ..., quadratic  by a quadratic path
 
-A path that is only measured tells by its count, where a small upper limit
-makes F felt. Under the standard limits F changes nothing but positions.
+A path that is only measured tells by its count, where the upper limit is small
+enough to make F felt.
 """
 from chance import FINEST_LEVELS
 from model.constants import (LEAST_FINEST, MOST_FINEST, POINT_NUMBERS,
@@ -77,7 +77,7 @@ TELLING = {
     "draw": of_both(PATHS | {JOINED}),
     "measure": of_both(PATHS | {MEASURED}),
     "draw_standard": of_both(PATHS | {JOINED}),
-    "measure_standard": of_both(PATHS),
+    "measure_standard": of_both(PATHS | {MEASURED}),
     "next_standard": PLACES | CHOICES,
 }
 
@@ -150,7 +150,8 @@ def told_by_curve(name, words, numbers):
 def told_by_list(name, words, numbers):
     if name in ("draw", "draw_standard") and words[FINEST_PLACE[name] - 1] > 1:
         yield JOINED
-    if name == "measure" and numbers != answer_by(TAKEN, name, words):
+    if (name in ("measure", "measure_standard")
+            and numbers != answer_by(TAKEN, name, words)):
         yield MEASURED
 
 

@@ -15,18 +15,16 @@ from above import ROOT
 from boundaries import CASES as BOUNDARIES
 from chance import (FINEST_LEVELS, random_degree, random_finest, random_level,
                     random_limits, random_points)
-from document_cases import (CASES, FINEST, LISTING, OLD_SHEET, SHEET,
-                            SHEET_NUMBERS)
+from document_cases import FINEST, LISTING, OLD_SHEET, SHEET, SHEET_NUMBERS
 from exact_curve import (check_as_cubics, check_distance, check_extremes,
                          check_farthest, check_lists, check_positions,
                          check_start)
-from finest_cases import CASES as FINEST_CASES
-from makers import (LONGEST, LONGEST_QUADRATICS, LONGEST_SEGMENTS,
+from hand_cases import CASES
+from makers import (LIMITS, LONGEST, LONGEST_QUADRATICS, LONGEST_SEGMENTS,
                     MOST_QUADRATICS, cubic, number_list, on_x, point,
                     quadratic, sheet, straight)
 from model import constants
-from model.constants import (CUBIC, ENTRY_NUMBERS, LEAST, MOST, QUADRATIC,
-                             STANDARD_LIMITS)
+from model.constants import CUBIC, ENTRY_NUMBERS, LEAST, MOST, QUADRATIC
 from model.drawing import (DOUBLE, HALVE, STEP, ZEROS, choose, last_position,
                            operate, shown, start)
 from model.listing import listing
@@ -38,14 +36,12 @@ from old_form import BY_HAND, REFUSALS, old_sheet, random_old_sheets
 from outcomes import answered
 from places import COUNT, UPPER, offset, put, swap
 from probe_protocol import request
-from quadratic_cases import CASES as QUADRATICS
 from quadratic_cases import LISTING as QUADRATIC_LISTING
 from quadratic_cases import NUMBERS as QUADRATIC_NUMBERS
 from quadratic_cases import SHEET as QUADRATIC_SHEET
 from spoilt import (FIRST, LISTED_ONLY, ONE, ONE_LIST, ONLY, SECOND,
                     SPOILT_LISTS, SPOILT_SHEETS, TWO)
 from tally import Tally
-from width_cases import CASES as WIDTHS
 
 ROOM = 40_000           # for every sheet and every number list
 
@@ -62,7 +58,7 @@ NUMBERS = [("POINT_NUMBERS", 3), ("ENTRY_NUMBERS", 4), ("LOWEST", -16_384),
            ("DEGREES", (2, 3)), ("QUADRATIC_MARK", 256), ("LEAST_FINEST", 6),
            ("MOST_FINEST", 12), ("SHEET_FINEST", 11),
            ("LEAST", -2_147_483_648), ("MOST", 2_147_483_647),
-           ("ONE_UNIT", 65_536), ("STANDARD_LIMITS", (65_536, 32_768)),
+           ("ONE_UNIT", 65_536), ("STANDARD_LIMITS", (45_875, 22_937)),
            ("MOST_SEGMENTS", 64), ("MOST_PATHS", 1_024),
            ("MOST_BYTES", 32_768)]
 
@@ -82,7 +78,7 @@ def check_numbers(tally):
 
 
 def check_document(tally):
-    for what, name, words, line in CASES + WIDTHS + FINEST_CASES + QUADRATICS:
+    for what, name, words, line in CASES:
         tally.equal(f"case {what}, {name}",
                     answered(request(name, words))[0], line)
     tally.equal("the sheet of A", SHEET, ONE)
@@ -121,7 +117,7 @@ def check_proved(tally):
                 listing(second).encode())
     tally.equal("the proved listing of A", proved_bytes("documentText"),
                 LISTING.encode())
-    outline = sheet_bytes(*STANDARD_LIMITS, [OUTLINE])
+    outline = sheet_bytes(*LIMITS, [OUTLINE])
     tally.equal("the outline's sheet", proved_bytes("outlineBytes"), outline)
     tally.equal("its proved listing", proved_bytes("outlineText"),
                 listing(outline).encode())
@@ -183,7 +179,7 @@ def shape(segments, level, finest=FINEST):
 
 
 def check_paths(tally):
-    check, limits = tally.equal, STANDARD_LIMITS
+    check, limits = tally.equal, LIMITS
     # 3(3S + 1) is 2^32 - 1 for the first, and 2^32 + 8 for the second.
     for segments in (477_218_588, 477_218_589):
         check("3(3S+1) does not wrap round",
@@ -353,9 +349,9 @@ def check_old_form(tally):
         met.add(refusal)
     tally.equal("refusals of old sheets", met, REFUSALS)
     tally.equal("without a path the forms are one",
-                old_sheet(*STANDARD_LIMITS, []), sheet())
+                old_sheet(*LIMITS, []), sheet())
     tally.equal("and accepted", read_sheet(sheet(), ROOM),
-                (0, [0, *STANDARD_LIMITS]))
+                (0, [0, *LIMITS]))
 
 
 # Order 10

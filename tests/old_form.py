@@ -10,8 +10,9 @@ import random
 from struct import pack
 
 from chance import clamped, random_level, random_limits
+from makers import LIMITS
 from model.constants import (CUBIC, FARTHEST, HIGHEST, LOWEST, MOST_SEGMENTS,
-                             SHEET_FINEST, STANDARD_LIMITS)
+                             SHEET_FINEST)
 from model.points import points_in, segments_of
 
 REFUSALS = {2, 13, 15}
@@ -63,24 +64,24 @@ def still(segments, *place, level=0):
     return level, [place] * points_in(CUBIC, segments)
 
 
-def standard(*paths):
-    return old_sheet(*STANDARD_LIMITS, paths)
+def old(*paths):
+    return old_sheet(*LIMITS, paths)
 
 
-OLD_PAIR = standard(still(1, 0, 0), still(1, 0, 0))
+OLD_PAIR = old(still(1, 0, 0), still(1, 0, 0))
 
 BY_HAND = [
     # One path runs past the end, whatever its size and its points.
-    (15, standard(still(1, 0, 0))),
-    (15, standard(still(1, HIGHEST, LOWEST))),
-    (15, standard(still(2, 7, -7, level=11))),
-    (15, standard(still(MOST_SEGMENTS, 1, 1))),
+    (15, old(still(1, 0, 0))),
+    (15, old(still(1, HIGHEST, LOWEST))),
+    (15, old(still(2, 7, -7, level=11))),
+    (15, old(still(MOST_SEGMENTS, 1, 1))),
     # Offset 1 is where the old record ended.
     (13, OLD_PAIR),
-    (13, standard(still(2, 9, -9), still(5, 9, 9), still(1, 0, 0))),
-    (13, standard(*[still(1, k, k) for k in range(12)])),
+    (13, old(still(2, 9, -9), still(5, 9, 9), still(1, 0, 0))),
+    (13, old(*[still(1, k, k) for k in range(12)])),
     # The first record is longer than both were.
-    (15, standard(still(5, 0, 0), still(1, 0, 0))),
+    (15, old(still(5, 0, 0), still(1, 0, 0))),
     # x of one point is taken for the width of another, and for a y.
-    (2, standard(still(1, 700, 0), still(1, 0, 0))),
+    (2, old(still(1, 700, 0), still(1, 0, 0))),
 ]

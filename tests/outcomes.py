@@ -3,12 +3,14 @@
 OUTCOMES has what has to come out of many requests at least once, by the name
 of the entry: refusals (0 for none), and where that says too little, words. A
 request has one such outcome, and beside it those by which it tells of its
-finest level and of its degree: misread.py and misread_degree.py have them.
+finest level, its degree and the standard limits: misread.py and the two after
+it have them.
 """
 from itertools import combinations
 
 import misread
 import misread_degree
+import misread_limits
 from misread import (BETWEEN, LEVEL, PAST, by_degree, is_refused_for_finest,
                      of_quadratic, place_fault, refusal_of)
 from model.constants import POINT_NUMBERS
@@ -48,7 +50,8 @@ RULES = {
 QUADRATICS = {name: set(map(of_quadratic, RULES[name]))
               for name in DEGREE_PLACE}
 TOLD = {"its finest level": misread.TELLING,
-        "its degree": misread_degree.TELLING}
+        "its degree": misread_degree.TELLING,
+        "the standard limits": misread_limits.TELLING}
 OUTCOMES = {name: wanted.union(*(each.get(name, set())
                                  for each in [QUADRATICS, *TOLD.values()]))
             for name, wanted in RULES.items()}
@@ -118,7 +121,8 @@ def answered(request):
     numbers = answer(name, words)
     ones = [by_degree(name, words, outcome(name, words, numbers)),
             *misread.told(name, words, numbers),
-            *misread_degree.told(name, words, numbers)]
+            *misread_degree.told(name, words, numbers),
+            *misread_limits.told(name, words, numbers)]
     return line(numbers), [(name, one) for one in ones]
 
 

@@ -84,15 +84,15 @@ STANDARD = {
 }
 
 
-def with_limits(name, words):
+def with_limits(name, words, standard=STANDARD_LIMITS):
     """The entry and the words that a request without limits stands for."""
     if name not in STANDARD:
         return name, words
     name, place = STANDARD[name]
-    return name, [*words[:place], *STANDARD_LIMITS, *words[place:]]
+    return name, [*words[:place], *standard, *words[place:]]
 
 
-def answer(name, words):
+def answer(name, words, standard=STANDARD_LIMITS):
     """The numbers of the answer."""
-    name, words = with_limits(name, words)
+    name, words = with_limits(name, words, standard)
     return ENTRIES[name](words)

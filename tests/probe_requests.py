@@ -8,8 +8,8 @@ import random
 from chance import one_in
 from drawing_requests import (any_drawing, any_words, make_next,
                               make_operation, make_start)
-from model.constants import (CUBIC, LEAST, MOST, QUADRATIC, SHEET_FINEST,
-                             STANDARD_LIMITS)
+from makers import LIMITS
+from model.constants import CUBIC, LEAST, MOST, QUADRATIC, SHEET_FINEST
 from model.points import numbers_in
 from path_requests import (make_draw, make_draw_standard, make_measure,
                            make_measure_standard)
@@ -118,7 +118,7 @@ def make_requests(chance, number):
 def limit_requests():
     """As many words, and as much room, as a request may have."""
     numbers = [0] * (MOST_WORDS - 1)
-    still = [QUADRATIC, 1, SHEET_FINEST, 0, *STANDARD_LIMITS,
+    still = [QUADRATIC, 1, SHEET_FINEST, 0, *LIMITS,
              *[5] * numbers_in(QUADRATIC, 1)]
     return [request("write", [0, *numbers]),
             request("draw", [MOST_ROOM, *still])]

@@ -3,11 +3,11 @@ curves, paths and records, and with degrees that are none.
 
 CASES has (what is tried, name of the request, argument words, answer line).
 """
-from document_cases import LIMITS, drawing, on_x
+from document_cases import drawing, on_x
 from finest_cases import (by_each_entry, drawn, entries, measured, operated,
                           refused_drawing, refused_path, refused_start,
                           started)
-from makers import on_width
+from makers import LIMITS, on_width
 from model.constants import CUBIC, LEAST, MOST, QUADRATIC
 from model.points import flat
 from probe_protocol import (BAD, START_NAMES, UNUSED_BYTE, UNUSED_NUMBER,

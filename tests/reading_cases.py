@@ -4,9 +4,9 @@ Those of the old form are among them.
 `read(refusal, sheet)` and `read(refusal, sheet, room)` take what is made here.
 """
 from document_cases import OLD_SHEET
-from makers import sheet, straight
+from makers import LIMITS, sheet, straight
 from model.constants import (HIGHEST, LOWEST, MOST_PATHS, MOST_SEGMENTS,
-                             ONE_UNIT, SHEET_FINEST, STANDARD_LIMITS)
+                             ONE_UNIT, SHEET_FINEST)
 from old_form import BY_HAND, old_sheet, random_old_sheets
 from places import COUNT, LOWER, UPPER, offset, put, record_places
 from spoilt import BENT, FAR, FIRST, GAP, ONE, ONLY, SECOND, TWO
@@ -193,7 +193,7 @@ def add_order_across(read):
 
 def add_old(read):
     # With no path both forms are the same 12 bytes.
-    read(0, old_sheet(*STANDARD_LIMITS, []))
+    read(0, old_sheet(*LIMITS, []))
     read(15, OLD_SHEET)
     for refusal, data in BY_HAND:
         read(refusal, data)

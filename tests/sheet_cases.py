@@ -20,11 +20,11 @@ import writing_cases
 from chance import (CORNERS, damage, random_sheet, strange_byte,
                     strange_number)
 from document_cases import SHEET, SHEET_NUMBERS
-from makers import (LEVELS, LONGEST_SEGMENTS, MANY, cubic, jump, number_list,
-                    on_width, point, sheet, straight, zigzag)
+from makers import (LEVELS, LIMITS, LONGEST_SEGMENTS, MANY, cubic, jump,
+                    number_list, on_width, point, sheet, straight, zigzag)
 from model.constants import (CUBIC, DEGREES, FARTHEST, HIGHEST, LOWEST,
                              MOST_BYTES, MOST_SEGMENTS, ONE_UNIT, QUADRATIC,
-                             SHEET_FINEST, STANDARD_LIMITS)
+                             SHEET_FINEST)
 from model.sheet import read_sheet, sheet_bytes, sheet_numbers, write_sheet
 from places import LISTED_COUNT, swap
 from probe_protocol import UNUSED_BYTE, UNUSED_NUMBER, lent, line, packed
@@ -88,8 +88,7 @@ class Cases:
 # Good sheets, read and written, with every kind of room
 
 def good_sheets():
-    limits = [(1, 0), (1, 1), (ONE_UNIT, ONE_UNIT), (ONE_UNIT, 0),
-              STANDARD_LIMITS]
+    limits = [(1, 0), (1, 1), (ONE_UNIT, ONE_UNIT), (ONE_UNIT, 0), LIMITS]
     for upper, lower in limits:
         yield upper, lower, []
         yield upper, lower, [straight(1)]
@@ -109,14 +108,14 @@ def good_sheets():
                         straight(2, 2, (5, 5, 5), (0, -1)), CURVED]
     # Coordinates at both ends, each way round.
     for ends in CORNERS:
-        yield (*STANDARD_LIMITS, [straight(2, 4, ends, (0, 0))])
+        yield (*LIMITS, [straight(2, 4, ends, (0, 0))])
     # Neighbours exactly as far apart as they may be.
     for ways in [(1, 0, 0), (0, 1, 0), (0, 0, 1), (1, 1, -1), (-1, 1, 1),
                  (1, -1, 1), (0, 0, -1)]:
-        yield (*STANDARD_LIMITS, [zigzag(2, 0, *[FARTHEST[CUBIC] * way
-                                                 for way in ways])])
-    yield (*STANDARD_LIMITS, [straight(16, 0, (LOWEST, HIGHEST, LOWEST),
-                                       (668, -668, 667))])
+        yield (*LIMITS, [zigzag(2, 0, *[FARTHEST[CUBIC] * way
+                                        for way in ways])])
+    yield (*LIMITS, [straight(16, 0, (LOWEST, HIGHEST, LOWEST),
+                              (668, -668, 667))])
 
 
 def add_good(cases):

@@ -3,12 +3,11 @@
 SPOILT_SHEETS and SPOILT_LISTS have some for each refusal of reading and of
 writing, by its number, but for 9, which depends on the room alone.
 """
-from makers import (cubic, jump, number_list, point, quadratic, sheet,
+from makers import (LIMITS, cubic, jump, number_list, point, quadratic, sheet,
                     straight)
 from model.constants import (CUBIC, FARTHEST, HIGHEST, LEAST, LOWEST, MOST,
                              MOST_PATHS, MOST_SEGMENTS, ONE_UNIT,
-                             POINT_NUMBERS, QUADRATIC, SHEET_FINEST,
-                             STANDARD_LIMITS)
+                             POINT_NUMBERS, QUADRATIC, SHEET_FINEST)
 from places import (COUNT, LISTED_COUNT, LISTED_LOWER, LISTED_UPPER, LOWER,
                     UPPER, listed_places, offset, put, record_places, swap)
 
@@ -115,7 +114,7 @@ SPOILT_LISTS = {
     4: [[0, 0, 0], swap(ONE_LIST, (LISTED_UPPER, ONE_UNIT + 1)),
         swap(TWO_LIST, (LISTED_LOWER, -1))],
     11: [number_list(*[straight(1)] * MOST_PATHS)],
-    12: [[MOST_PATHS + 1, 0, 0], [-1, *STANDARD_LIMITS],
+    12: [[MOST_PATHS + 1, 0, 0], [-1, *LIMITS],
          swap(ONE_LIST, (LISTED_COUNT, LEAST))],
     14: [swap(ONE_LIST, (LISTED_ONLY.segments, 0)),
          swap(TWO_LIST, (LISTED_SECOND.segments, MOST_SEGMENTS + 1)),
@@ -124,7 +123,7 @@ SPOILT_LISTS = {
          swap(CURVES.listed, (LISTED_LAST.segments, MOST_SEGMENTS + 1))],
     17: [[], [0, 0], TWO_LIST[:LISTED_SECOND.mark], TWO_LIST[:-1],
          TWO_LIST + [0], swap(TWO_LIST, (LISTED_COUNT, 1)),
-         [MOST_PATHS, *STANDARD_LIMITS],
+         [MOST_PATHS, *LIMITS],
          swap(TWO_LIST, (LISTED_SECOND.mark, 256)),
          swap(CURVES.listed, (LISTED_LAST.mark, SHEET_FINEST))],
 }

@@ -13,17 +13,15 @@ from collections import Counter
 import kept
 from above import ROOT
 from boundaries import CASES as BOUNDARIES
-from document_cases import CASES, LISTING, SHEET
-from finest_cases import CASES as FINEST
+from document_cases import LISTING, SHEET
+from hand_cases import CASES
 from listing_cases import TOO_LONG, gate_sheets
 from model.listing import listing
 from model.points import flat
 from outcomes import RULES, answered, missing
 from probe_protocol import packed, request
 from probe_requests import limit_requests, make_requests
-from quadratic_cases import CASES as QUADRATICS
 from sheet_cases import make_cases
-from width_cases import CASES as WIDTHS
 
 EACH, TELLING = 8, 2    # requests of each rule, and of what else is told
 SMALL = 5_000           # bytes of a request and its answer
@@ -37,12 +35,12 @@ def joined(lines):
     return "".join(line + "\n" for line in lines).encode()
 
 
-# The probe: the document's cases, those of orders 8, 9 and 10, the boundaries,
-# and a few requests of each outcome
+# The probe: the cases by hand, the boundaries, and a few requests of each
+# outcome
 
 def case_requests():
     requests = []
-    for what, name, words, line in CASES + WIDTHS + FINEST + QUADRATICS:
+    for what, name, words, line in CASES:
         requests.append(request(name, words))
         assert answered(requests[-1])[0] == line, what
     return requests

@@ -2,8 +2,8 @@
 
 CASES has (what is tried, name of the request, argument words, answer line).
 """
-from document_cases import FINEST, LIMITS
-from makers import on_width
+from document_cases import FINEST
+from makers import LIMITS, on_width
 from model.constants import CUBIC
 from model.points import flat
 from probe_protocol import line

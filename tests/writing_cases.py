@@ -4,10 +4,9 @@ order.
 `write(refusal, numbers)` and `write(refusal, numbers, room)` take what is made
 here.
 """
-from makers import number_list, straight
+from makers import LIMITS, number_list, straight
 from model.constants import (HIGHEST, LEAST, LOWEST, MOST, MOST_PATHS,
-                             MOST_SEGMENTS, ONE_UNIT, SHEET_FINEST,
-                             STANDARD_LIMITS)
+                             MOST_SEGMENTS, ONE_UNIT, SHEET_FINEST)
 from places import LISTED_COUNT, LISTED_LOWER, LISTED_UPPER, swap
 from spoilt import (FAR, GAP, LISTED_FIRST, LISTED_ONLY, LISTED_SECOND,
                     ONE_LIST, TWO_LIST, wraps)
@@ -21,15 +20,15 @@ def add_header(write):
         write(17, TWO_LIST[:length])
     for more in ([0], [-1], [1, 0], TWO_LIST[LISTED_SECOND.start:]):
         write(17, TWO_LIST + more)
-    write(17, [0, *STANDARD_LIMITS, 0])
+    write(17, [0, *LIMITS, 0])
     write(17, swap(TWO_LIST, (LISTED_COUNT, 1)))
     write(17, swap(TWO_LIST, (LISTED_COUNT, 3)))
     # 1,024 paths promised, none there: 17, for 12 looks at the count alone.
-    write(17, [MOST_PATHS, *STANDARD_LIMITS])
+    write(17, [MOST_PATHS, *LIMITS])
     # 12.
     for count in (-1, MOST_PATHS + 1, 65_536, 65_537, 2**30, MOST, LEAST,
                   LEAST + 1):
-        write(12, [count, *STANDARD_LIMITS])
+        write(12, [count, *LIMITS])
         write(12, swap(ONE_LIST, (LISTED_COUNT, count)))
     # 4.
     pairs = [(0, 0), (-1, 0), (-1, -1), (ONE_UNIT + 1, 0), (MOST, 0),
@@ -87,7 +86,7 @@ def add_points(write):
         write(2, swap(ONE_LIST, (LISTED_ONLY.width(k), GAP)))
         write(2, swap(ONE_LIST, (LISTED_ONLY.width(k), -GAP)))
     # Numbers of points that have no width: too few of them.
-    write(17, [1, *STANDARD_LIMITS, 1, 0, 0, 0, 1, 0, 2, 0, 3, 0])
+    write(17, [1, *LIMITS, 1, 0, 0, 0, 1, 0, 2, 0, 3, 0])
 
 
 # The order of refusals
@@ -103,15 +102,15 @@ def add_order(write):
     write(4, [1, 0, 0])
     write(4, [1, ONE_UNIT, ONE_UNIT + 1, 0])
     # 17 for two numbers before 14.
-    write(17, [1, *STANDARD_LIMITS, 0])
-    write(17, [1, *STANDARD_LIMITS, -1])
+    write(17, [1, *LIMITS, 0])
+    write(17, [1, *LIMITS, -1])
     # 14 before 3, and before 17 for the points.
     write(14, swap(ONE_LIST, (path.segments, 0),
                    (path.mark, SHEET_FINEST + 1)))
-    write(14, [1, *STANDARD_LIMITS, MOST_SEGMENTS + 1, 0])
-    write(14, [1, *STANDARD_LIMITS, -1, -1])
+    write(14, [1, *LIMITS, MOST_SEGMENTS + 1, 0])
+    write(14, [1, *LIMITS, -1, -1])
     # 3 before 17 for the points.
-    write(3, [1, *STANDARD_LIMITS, MOST_SEGMENTS, SHEET_FINEST + 1])
+    write(3, [1, *LIMITS, MOST_SEGMENTS, SHEET_FINEST + 1])
     write(3, swap(ONE_LIST, (path.mark, -1))[:-1])
     # 17 for the points before 1 and 2.
     write(17, swap(ONE_LIST, (path.x(0), FAR))[:-1])

@@ -61,7 +61,7 @@ pub fn measure(points: &[i32], shape: Shape, limits: Limits) -> Drawn
     }
 }
 
-// The same under the standard limits, 65,536 and 32,768. Refuses 14, 24, 1, 2, 3, 9.
+// The same under the standard limits. Refuses 14, 24, 1, 2, 3, 9.
 pub fn draw_standard(points: &[i32], shape: Shape, list: &mut [i32]) -> Drawn
     ensures { λ r. ⌜ r ≡ drawn (path (now (points .entry)) shape standardLimits) (length (now (list .entry))) ⌝ }
     ensures { λ _. ⌜ now (list .exit) ≡ written (path (now (points .entry)) shape standardLimits) (now (list .entry)) ⌝ }
@@ -69,7 +69,7 @@ pub fn draw_standard(points: &[i32], shape: Shape, list: &mut [i32]) -> Drawn
     draw(points, shape, Limits::standard(), list)
 }
 
-// The same under the standard limits, 65,536 and 32,768. Refuses 14, 24, 1, 2, 3.
+// The same under the standard limits. Refuses 14, 24, 1, 2, 3.
 pub fn measure_standard(points: &[i32], shape: Shape) -> Drawn
     ensures { λ r. ⌜ r ≡ measured (path (now (points .entry)) shape standardLimits) ⌝ }
 {

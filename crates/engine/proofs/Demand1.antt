@@ -5,6 +5,7 @@ use Prim.Native.Nat.{ℕ}
 use lib.IntN.{pos}
 use Rattle.rules.specs.declared.Degree.{Degree}
 use Rattle.rules.specs.Refusals.{Among, firstOf}
+use Rattle.rules.specs.Rules.{standardUpper, standardLower}
 use Rattle.rules.proofs.Refusals.{number-answered, refused-answers}
 use Rattle.coordinate.specs.Control.{Control}
 use Rattle.coordinate.specs.Curve.{curve}
@@ -66,8 +67,8 @@ said-refusal upper lower d = number-answered refusedBy (says (chosen upper lower
 pub choice-refuses-as-tabled : (upper lower : ℕ) (d : Drawing) → Among (choice upper lower d .refusal) choiceTable
 choice-refuses-as-tabled upper lower d = rw said-refusal (choice-among (d .finest) (d .level) (d .q) upper lower)
 
--- under the standard limits, 65,536 and 32,768
-pub standard-refuses-as-tabled : (d : Drawing) → Among (choice 65536 32768 d .refusal) standardTable
+-- under the standard limits without 4
+pub standard-refuses-as-tabled : (d : Drawing) → Among (choice standardUpper standardLower d .refusal) standardTable
 standard-refuses-as-tabled d = rw said-refusal (standard-among (d .finest) (d .level) (d .q))
 
 pub refused-choice-names-nothing : (upper lower : ℕ) (d : Drawing) → (choice upper lower d .refusal ≡ 0 → ⊥) → choice upper lower d .operation ≡ none

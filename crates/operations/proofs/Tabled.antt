@@ -6,7 +6,8 @@ use lib.Dec.{ltb}
 use Rattle.numbers.specs.Tables.{All}
 use Rattle.rules.specs.declared.Degree.{Degree}
 use Rattle.rules.specs.Refusals.{Among, firstOf}
-use Rattle.rules.specs.Rules.{isFinest, reach, areLimits, isLevel}
+use Rattle.rules.specs.Rules.{isFinest, reach, areLimits, isLevel, standardUpper, standardLower}
+use Rattle.rules.proofs.Laws.{standard-lawful}
 use Rattle.rules.proofs.Refusals.{line-among, among, first-among, untabled}
 use Rattle.coordinate.specs.declared.Registers.{Registers}
 use Rattle.coordinate.specs.Control.{Control}
@@ -90,10 +91,10 @@ module _ (F n q : ℕ) where
   pub choice-nothing-else : (upper lower : ℕ) → All (λ k. choiceRefusal F upper lower n q ≡ k → ⊥) (1 ∷ 2 ∷ 3 ∷ 6 ∷ 7 ∷ 8 ∷ 9 ∷ 24 ∷ [])
   choice-nothing-else upper lower = untabled choiceTable (1 ∷ 2 ∷ 3 ∷ 6 ∷ 7 ∷ 8 ∷ 9 ∷ 24 ∷ []) (choice-among upper lower) tt
 
-  -- under the standard limits, 65,536 and 32,768, without 4
-  pub standard-among : Among (choiceRefusal F 65536 32768 n q) standardTable
-  unfolding choiceRefusal gate areLimits
-  standard-among = line-among (isDrawing F n q) (among tt) (line-among (ltb q (2 ^ F)) (among tt) (among tt))
+  -- under the standard limits without 4
+  pub standard-among : Among (choiceRefusal F standardUpper standardLower n q) standardTable
+  unfolding choiceRefusal gate
+  standard-among = rw standard-lawful (line-among (isDrawing F n q) (among tt) (line-among (ltb q (2 ^ F)) (among tt) (among tt)))
 
-  pub standard-nothing-else : All (λ k. choiceRefusal F 65536 32768 n q ≡ k → ⊥) (1 ∷ 2 ∷ 3 ∷ 4 ∷ 6 ∷ 7 ∷ 8 ∷ 9 ∷ 24 ∷ [])
+  pub standard-nothing-else : All (λ k. choiceRefusal F standardUpper standardLower n q ≡ k → ⊥) (1 ∷ 2 ∷ 3 ∷ 4 ∷ 6 ∷ 7 ∷ 8 ∷ 9 ∷ 24 ∷ [])
   standard-nothing-else = untabled standardTable (1 ∷ 2 ∷ 3 ∷ 4 ∷ 6 ∷ 7 ∷ 8 ∷ 9 ∷ 24 ∷ []) standard-among tt

@@ -10,7 +10,8 @@ use lib.ListN.{length, drop}
 use borrow.Author.Tests.{leb-true}
 use Rattle.numbers.specs.Tables.{All}
 use Rattle.rules.specs.Refusals.{unless, firstOf, refusalOr, filled, Among}
-use Rattle.rules.specs.Rules.{isFinest, reach, isLevel, areLimits, isSize, arePoints, areChained, pointsRefusal}
+use Rattle.rules.specs.Rules.{isFinest, reach, isLevel, areLimits, standardLimits, isSize, arePoints, areChained, pointsRefusal}
+use Rattle.rules.proofs.Laws.{standard-lawful}
 use Rattle.rules.proofs.Refusals.{rule-kept, line-among, untabled, among, first-kept, first-among, number-answered, refused-answers, filled-refused}
 use Rattle.entries.specs.Entries.{entrySize, flat}
 use Rattle.entries.specs.Length.{lengthOf}
@@ -68,23 +69,23 @@ measure-refuses-nothing-else p = untabled measureTable (5 ∷ 6 ∷ 7 ∷ 8 ∷ 
 pub draw-refuses-nothing-else : (p : Path) (room : ℕ) → All (λ k. drawn p room .refusal ≡ k → ⊥) (5 ∷ 6 ∷ 7 ∷ 8 ∷ 10 ∷ [])
 draw-refuses-nothing-else p room = untabled drawTable (5 ∷ 6 ∷ 7 ∷ 8 ∷ 10 ∷ []) (draw-refuses-as-tabled p room) tt
 
--- under the standard limits, 65,536 and 32,768, without 4
+-- under the standard limits without 4
 module _ (points : List ℤ) (shape : Shape) where
-  pub standard-measure-refuses-as-tabled : Among (measured (path points shape (record { upper = 65536; lower = 32768 })) .refusal) standardMeasureTable
-  unfolding areLimits
-  standard-measure-refuses-as-tabled = rw measured-refusal (path-among _ (among tt) (among tt) (among tt) (among tt) (among tt) (among tt) (among tt))
+  pub standard-measure-refuses-as-tabled : Among (measured (path points shape standardLimits) .refusal) standardMeasureTable
+  standard-measure-refuses-as-tabled =
+      rw measured-refusal (path-among _ (among tt) (among tt) (among tt) (among tt) (among tt) (among tt) (rw standard-lawful (among tt)))
 
-  pub standard-draw-refuses-as-tabled : (room : ℕ)
-      → Among (drawn (path points shape (record { upper = 65536; lower = 32768 })) room .refusal) standardDrawTable
-  unfolding areLimits
+  pub standard-draw-refuses-as-tabled : (room : ℕ) → Among (drawn (path points shape standardLimits) room .refusal) standardDrawTable
   standard-draw-refuses-as-tabled room =
       rw drawn-refusal
-      (room-among _ room (path-among _ (among tt) (among tt) (among tt) (among tt) (among tt) (among tt) (among tt)) (among tt) (among tt))
+      (room-among _ room
+      (path-among _ (among tt) (among tt) (among tt) (among tt) (among tt) (among tt) (rw standard-lawful (among tt)))
+      (among tt) (among tt))
 
-  pub standard-measure-never-4 : All (λ k. measured (path points shape (record { upper = 65536; lower = 32768 })) .refusal ≡ k → ⊥) (4 ∷ 9 ∷ [])
+  pub standard-measure-never-4 : All (λ k. measured (path points shape standardLimits) .refusal ≡ k → ⊥) (4 ∷ 9 ∷ [])
   standard-measure-never-4 = untabled standardMeasureTable (4 ∷ 9 ∷ []) standard-measure-refuses-as-tabled tt
 
-  pub standard-draw-never-4 : (room : ℕ) → All (λ k. drawn (path points shape (record { upper = 65536; lower = 32768 })) room .refusal ≡ k → ⊥) (4 ∷ [])
+  pub standard-draw-never-4 : (room : ℕ) → All (λ k. drawn (path points shape standardLimits) room .refusal ≡ k → ⊥) (4 ∷ [])
   standard-draw-never-4 room = untabled standardDrawTable (4 ∷ []) (standard-draw-refuses-as-tabled room) tt
 
 -- ---- a refusal

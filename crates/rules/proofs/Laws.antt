@@ -1,7 +1,7 @@
 -- What the rules say of the numbers that they accept.
 use mathlib.Core.Path.{_≡_, refl, ap₂}
 use mathlib.Core.Bool.{true, _&&_}
-use Prim.Native.Nat.{ℕ, _+_, _*_, _≤_, _<_}
+use Prim.Native.Nat.{ℕ, _+_, _*_, _/_, _≤_, _<_}
 use native.Mathlib.Omega.{arith}
 use lib.Dec.{leb, eqb}
 use lib.IntN.{ℤ, pos, negsuc, _-ℤ_}
@@ -85,9 +85,13 @@ unfolding areLimits
 hold-limits {upper} {lower} l =
     ap₂ _&&_ (ap₂ _&&_ (le-leb 1 upper (l .least)) (le-leb upper 65536 (l .most))) (le-leb lower upper (l .order))
 
--- an entry without limits uses 65,536 and 32,768
-pub standard-limits : (standardLimits .upper ≡ 65536) × (standardLimits .lower ≡ 32768)
+-- an entry without limits uses 0.7 and 0.35 of a unit, cut to whole 65,536ths
+pub standard-limits : (standardLimits .upper ≡ (7 * 65536) / 10) × (standardLimits .lower ≡ (35 * 65536) / 100)
 standard-limits = (refl, refl)
+
+-- and keeps rule 4
+pub standard-lawful : areLimits (standardLimits .upper) (standardLimits .lower) ≡ true
+standard-lawful = hold-limits (record { least = omega arith; most = omega arith; order = omega arith })
 
 -- ---- degrees
 

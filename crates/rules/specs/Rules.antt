@@ -52,12 +52,12 @@ isLevel F n = leb n F
 unfoldable pub areLimits : ℕ → ℕ → Bool
 areLimits upper lower = leb 1 upper && leb upper 65536 && leb lower upper
 
--- the limits of an entry without limits
+-- the limits of an entry without limits, in 65,536ths: about 0.7 and 0.35 of a unit
 abbrev pub standardUpper : ℕ
-standardUpper = 65536
+standardUpper = 45875
 
 abbrev pub standardLower : ℕ
-standardLower = 32768
+standardLower = 22937
 
 abbrev pub standardLimits : Limits
 standardLimits = record { upper = standardUpper; lower = standardLower }

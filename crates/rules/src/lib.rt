@@ -5,10 +5,10 @@ ghost use Rattle.rules.specs.Rules.{isFinest, degree, mostReach, reach, 
 // The finest level of a sheet's paths.
 pub const SHEET_FINEST: u32 = 11;
 
-// The standard limits.
-const STANDARD_UPPER: u32 = 65536;
+// The standard limits, 0.7 and 0.35 of a unit.
+const STANDARD_UPPER: u32 = 45875;
 
-const STANDARD_LOWER: u32 = 32768;
+const STANDARD_LOWER: u32 = 22937;
 
 // A point has so many numbers.
 pub const COORDINATES: usize = 3;
