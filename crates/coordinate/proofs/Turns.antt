@@ -1,9 +1,8 @@
 -- What holds of one coordinate of every drawing, and that the start and each operation keep it: a and b are exact, c's error is
 -- bounded as it would be at the finest level, which halve and double leave as it is, and d's error by q alone.
 use mathlib.Core.Path.{◌≡◌, sym, ap, ap₂, ◌∙◌, subst}
-use Prim.Native.Nat.{ℕ, suc, ◌+◌, ◌*◌, ◌^◌, ◌≤◌, ◌<◌}
+use Prim.Native.Nat.{ℕ, suc, ◌+◌, ◌*◌, ◌^◌, ◌≤◌, ◌<◌, zero-le}
 use native.Mathlib.Nat.{pow-succ', mul_assoc, mul-pos, zero-mul}
-use borrow.Author.Rules.{zero≤}
 use native.Mathlib.Omega.{arith}
 use lib.Pow.{pow_pos, pow-add}
 use lib.IntN.{ℤ, pos, ◌+ℤ◌, ◌-ℤ◌, ◌*ℤ◌}
@@ -193,7 +192,7 @@ module _ (κ G : ℕ) (f : Curve) where
           levels = e;
           strides = 0;
           whole = sym (zero-mul (2 ^ j));
-          within = zero≤;
+          within = zero-le;
           exact = start_exact;
           c_low =
               start_low (pos κ) (pos (2 ^ n)) (pos (2 ^ j)) f.A f.B f.C (start_registers n f).c _ (pos G) (ap pos e) (nat (2 ^ j)) high

@@ -1,4 +1,5 @@
 // One coordinate of a drawing: its control points and its registers. What they mean is in specs/; there is no code here.
+#![tactic(auto)]
 
 // The registers of one coordinate, in 65,536ths of a unit.
 #[derive(Drop)]

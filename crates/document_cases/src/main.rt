@@ -1,5 +1,7 @@
 // Runs the worked cases of document 01 through the public functions of the drawer and of the engine, and prints the numbers that the
 // document gives; a case of order 8, in which the width alone moves; A at the finest levels 6 and 12 of order 9; and a quadratic path of order 10.
+#![tactic(auto)]
+
 use coordinate::{Cubic, Quadratic, Registers};
 use engine::{Drawing, Moved};
 use entries::{Entry, Found};

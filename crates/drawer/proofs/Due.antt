@@ -1,46 +1,56 @@
--- What the drawer's loops keep, whatever list they make: the list and what is carried, with all that is still due, are those of the loop's start with
--- all that was due there.
+-- What the drawer's loops keep: the list and the tally, with all that is still due, are those of the loop's start with all that was due there.
 use mathlib.Core.Path.{◌≡◌, refl, sym, ◌∙◌, subst}
-use mathlib.Core.List.{List, [], ◌∷◌}
-use Prim.Native.Nat.{ℕ, ◌≤◌, ◌<◌}
+use mathlib.Core.List.{List, ◌∷◌}
+use Prim.Native.Nat.{ℕ, ◌+◌, ◌*◌, ◌≤◌, ◌<◌}
+use native.Mathlib.Nat.{le_trans}
+use native.Mathlib.Omega.{arith}
 use lib.IntN.{ℤ}
+use lib.Seq.{sets}
+use Rattle.numbers.proofs.Buffers.{Ahead, here, then, stored}
 use Rattle.entries.specs.declared.Entry.{Entry}
+use Rattle.entries.specs.Entries.{entry_size, numbers, flat}
+use Rattle.entries.proofs.Length.{move_most}
+use Rattle.drawer.specs.declared.Tally.{Tally}
+use Rattle.drawer.specs.Tally.{added, Small, added_all}
 
--- A way to list entries one by one: what is carried, and what an entry makes of it and of the lent list. `Few t n`: t is of at most n entries.
-pub record Lister : Type 1 where
-  pub Carried : Type 0
-  pub next : Carried → Entry → Carried
-  pub stores : List ℤ → Carried → Entry → List ℤ
-  pub Few : Carried → ℕ → Type 0
-  pub most : (t : Carried) (m n : ℕ) → Few t m → m ≤ n → Few t n
-  pub more : (t : Carried) (e : Entry) (m n : ℕ) → Few t m → m < n → Few (next t e) n
+pub record Due (l : List ℤ) (t : Tally) (es : List Entry) (l₀ : List ℤ) (t₀ : Tally) (es₀ : List Entry) : Type 0 where
+  pub tally : added_all t es ≡ added_all t₀ es₀
+  pub list : Ahead l (entry_size * t.points) (flat es) l₀ (entry_size * t₀.points) (flat es₀)
 
-module _ (L : Lister) where
-  -- over all of a list
-  unfoldable pub next_all : L.Carried → List Entry → L.Carried
-  next_all t [] = t
-  next_all t (e ∷ es) = next_all (L.next t e) es
+pub due_here : (l : List ℤ) (t : Tally) (es : List Entry) → Due l t es l t es
+due_here l t es = record { tally = refl; list = here l (entry_size * t.points) (flat es) }
 
-  unfoldable pub stores_all : List ℤ → L.Carried → List Entry → List ℤ
-  stores_all l t [] = l
-  stores_all l t (e ∷ es) = stores_all (L.stores l t e) (L.next t e) es
+pub due_then : {l l₁ l₀ : List ℤ} {t t₁ t₀ : Tally} {es es₁ es₀ : List Entry}
+    → Due l t es l₁ t₁ es₁ → Due l₁ t₁ es₁ l₀ t₀ es₀ → Due l t es l₀ t₀ es₀
+due_then a b = record { tally = a.tally ∙ b.tally; list = then a.list b.list }
 
-  pub record Due (l : List ℤ) (t : L.Carried) (es : List Entry) (l₀ : List ℤ) (t₀ : L.Carried) (es₀ : List Entry) : Type 0 where
-    pub carried : next_all t es ≡ next_all t₀ es₀
-    pub list : stores_all l t es ≡ stores_all l₀ t₀ es₀
+-- the same entries in another form
+pub due_by : {l l₀ : List ℤ} {t t₀ : Tally} {es fs es₀ : List Entry} → fs ≡ es → Due l t es l₀ t₀ es₀ → Due l t fs l₀ t₀ es₀
+due_by {l} {l₀} {t} {t₀} {es₀ = es₀} e a = subst (λ (x : List Entry). Due l t x l₀ t₀ es₀) (sym e) a
 
-  pub due_here : (l : List ℤ) (t : L.Carried) (es : List Entry) → Due l t es l t es
-  due_here l t es = record { carried = refl; list = refl }
+-- an entry is shown
+pub due_shown : {l l₀ : List ℤ} {t t₀ : Tally} {e : Entry} {es es₀ : List Entry} → Due l t (e ∷ es) l₀ t₀ es₀
+    → Due (sets l (entry_size * t.points) (numbers e)) (added t e) es l₀ t₀ es₀
+unfolding added_all added flat
+due_shown {l} {t = t} {e = e} {es = es} a =
+    let at = entry_size * t.points in
+    let one = subst (λ (n : ℕ). Ahead (sets l at (numbers e)) n (flat es) l at (flat (e ∷ es))) (one_more t.points) (stored l at (numbers e) (flat es)) in
+    record { tally = a.tally; list = then one a.list }
+  where
+    one_more : (n : ℕ) → entry_size * n + entry_size ≡ entry_size * (n + 1)
+    one_more n = omega arith
 
-  module _ {l l₀ : List ℤ} {t t₀ : L.Carried} {es₀ : List Entry} where
-    pub due_then : {l₁ : List ℤ} {t₁ : L.Carried} {es es₁ : List Entry} → Due l t es l₁ t₁ es₁ → Due l₁ t₁ es₁ l₀ t₀ es₀ → Due l t es l₀ t₀ es₀
-    due_then a b = record { carried = a.carried ∙ b.carried; list = a.list ∙ b.list }
+-- a tally of at most n points
+pub record Few (t : Tally) (n : ℕ) : Type 0 where
+  pub points : t.points ≤ n
+  pub length : t.length ≤ 1414 * t.points
 
-    -- the same entries in another form
-    pub due_by : {es fs : List Entry} → fs ≡ es → Due l t es l₀ t₀ es₀ → Due l t fs l₀ t₀ es₀
-    due_by e a = subst (λ (x : List Entry). Due l t x l₀ t₀ es₀) (sym e) a
+pub few_small : {t : Tally} {n : ℕ} → Few t n → n ≤ 1000000 → Small t
+few_small f h = record { few = le_trans f.points h; short = f.length }
 
-    -- an entry is listed
-    pub due_listed : {e : Entry} {es : List Entry} → Due l t (e ∷ es) l₀ t₀ es₀ → Due (L.stores l t e) (L.next t e) es l₀ t₀ es₀
-    unfolding next_all stores_all
-    due_listed a = record { carried = a.carried; list = a.list }
+pub few_most : {t : Tally} {m n : ℕ} → Few t m → m ≤ n → Few t n
+few_most f h = record { points = le_trans f.points h; length = f.length }
+
+pub few_more : (t : Tally) (e : Entry) {m n : ℕ} → Few t m → m < n → Few (added t e) n
+unfolding added
+few_more t e f h = record { points = omega (arith, f.points); length = omega (arith, f.length, move_most t.last e) }

@@ -1,8 +1,5 @@
--- Laws of the drawer's starts, steps, loops and answers.
+-- Laws of the drawer's starts, loops and answers.
 pub mod Starts
-pub mod NextStep
+pub mod Answers
 pub mod Due
 pub mod Loops
-pub mod WholeRun
-pub mod CleanRun
-pub mod Answers

@@ -1,3 +1,1 @@
 pub mod Tally
-pub mod Cleaning
-pub mod NextStep

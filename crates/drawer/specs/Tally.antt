@@ -1,12 +1,11 @@
 -- What the drawer carries along a path: how many points there are so far, their length, and the last of them.
-use Rattle.std.specs.Prelude.{◌≡◌, List, ℕ, suc, ◌+◌, ◌*◌, ◌^◌, ◌≤◌, ◌<◌, ℤ, length}
+use Rattle.std.specs.Prelude.{◌≡◌, List, [], ◌∷◌, ℕ, ◌+◌, ◌*◌, ◌^◌, ◌≤◌, ◌<◌, ℤ, length}
 use Rattle.rules.specs.declared.Degree.{Degree}
 use Rattle.rules.specs.Rules.{most_finest, degree, coordinates, most_segments}
 use Rattle.operations.specs.Refusals.{start_refusal}
 use Rattle.engine.specs.declared.Drawing.{Drawing}
 use Rattle.entries.specs.declared.Entry.{Entry}
-use Rattle.entries.specs.Entries.{last_of}
-use Rattle.entries.specs.Length.{move_length, length_from}
+use Rattle.entries.specs.Length.{move_length}
 use Rattle.drawer.specs.declared.Tally.{Tally}
 use Rattle.path.specs.Path.{Path, controls, first}
 use Rattle.path.specs.Entries.{entry, following}
@@ -35,12 +34,9 @@ pub record Small (t : Tally) : Type 0 where
   pub few : t.points ≤ 1000000
   pub short : t.length ≤ 1414 * t.points
 
--- the path's first entry
-unfoldable pub start : Path → Entry
-start p = entry p.finest 0 (first p.degree p.finest p.points p.level 0)
+unfoldable pub added_all : Tally → List Entry → Tally
+added_all t [] = t
+added_all t (e ∷ es) = added_all (added t e) es
 
--- of the whole path
 unfoldable pub tally : Path → Tally
-tally p =
-    let es = following p 0 p.segments in
-    record { points = suc (length es); length = length_from (start p) es; last = last_of (start p) es }
+tally p = added_all (begun (entry p.finest 0 (first p.degree p.finest p.points p.level 0))) (following p 0 p.segments)

@@ -1,8 +1,7 @@
-// Point lists of paths: draw fills a lent list, measure answers the number of points and the length alone, clean fills a list without repeats and
-// elbows.
-mod cleaning;
+// Point lists of paths: draw fills a lent list, measure answers the number of points and the length alone.
+#![tactic(auto)]
+
 mod segments;
-mod steps;
 
 ghost use Rattle.std.specs.Prelude.{◌≡◌, ◌*◌, length};
 ghost use Rattle.std.proofs.lemmas.List.Edits.{sets};
@@ -10,15 +9,14 @@ ghost use Rattle.rules.specs.Rules.{standard_limits};
 ghost use Rattle.entries.specs.Entries.{entry_size, numbers, flat};
 ghost use Rattle.path.specs.Path.{path, path_refusal, first};
 ghost use Rattle.path.specs.Entries.{entry, entries};
-ghost use Rattle.path.specs.Answer.{refused_by, measured, drawn, written, uncounted, counted, clean_written};
+ghost use Rattle.path.specs.Answer.{refused_by, measured, drawn, written};
 ghost use Rattle.drawer.specs.Tally.{Ready, Placed, begun, added, Small, tally};
 
-use engine::Drawing;
+use engine::{Drawing, Next};
 use entries::{ENTRY_SIZE, Entry};
-use path::{Cleaned, Drawn, Shape};
+use path::{Drawn, Shape};
 use rules::Limits;
 use segments::{entry_of, first_of};
-use steps::to_step;
 
 // What was drawn so far.
 #[derive(Drop)]
@@ -76,36 +74,6 @@ pub fn measure_standard(points: &[i32], shape: Shape) -> Drawn
     measure(points, shape, Limits::standard())
 }
 
-// Writes the cleaned list of a path, which has no repeats and no elbows, to the front of `list`, four numbers an entry, and answers its count.
-// Refuses 14, 24, 1, 2, 3, 4, and 9 where the cleaned list does not fit, with the list as it was.
-pub fn clean(points: &[i32], shape: Shape, limits: Limits, list: &mut [i32]) -> Cleaned
-    ensures value { result ≡ counted (path points.now shape limits) (length list.old) }
-    ensures list_after { list.new ≡ clean_written (path points.now shape limits) list.old }
-{
-    let refusal = refusal_of(points, shape, limits);
-    if refusal != 0 {
-        return uncount(refusal);
-    }
-    let mut none = [0i32; 0];
-    let count = cleaning::run(points, shape, limits, &mut none);
-    if list.len() < ENTRY_SIZE * (count as usize) {
-        return uncount(9);
-    }
-    cleaning::run(points, shape, limits, list);
-    Cleaned {
-        refusal: 0,
-        count: count,
-    }
-}
-
-// The same under the standard limits. Refuses 14, 24, 1, 2, 3, 9.
-pub fn clean_standard(points: &[i32], shape: Shape, list: &mut [i32]) -> Cleaned
-    ensures value { result ≡ counted (path points.now shape standard_limits) (length list.old) }
-    ensures list_after { list.new ≡ clean_written (path points.now shape standard_limits) list.old }
-{
-    clean(points, shape, Limits::standard(), list)
-}
-
 // ---- refusals
 
 fn refusal_of(points: &[i32], shape: Shape, limits: Limits) -> u32
@@ -141,15 +109,6 @@ fn refuse(refusal: u32) -> Drawn
     }
 }
 
-fn uncount(refusal: u32) -> Cleaned
-    ensures { result ≡ uncounted refusal }
-{
-    Cleaned {
-        refusal: refusal,
-        count: 0,
-    }
-}
-
 // ---- the drawer
 
 // Draws every segment of an accepted path: its entries go to the front of `list`, as far as it reaches.
@@ -162,12 +121,20 @@ fn run(points: &[i32], shape: Shape, limits: Limits, list: &mut [i32]) -> Tally
     let mut t = begin(points, shape, list);
     let mut k: u32 = 0;
     'segments: while k < segments {
-        // A copy, which the steps can change in registers: what a call hands over stays in memory.
+        // A copy, which the operations can change in registers: what a call hands over stays in memory.
         let first = first_of(points, shape, k);
         let mut d = first;
-        'steps: while d.q < (1 << d.finest) {
-            d = to_step(d, limits);
-            t = show(t, d, k, list);
+        'operations: loop {
+            let next = d.next(limits);
+            match next {
+                Next::Halve => d = d.halve().drawing,
+                Next::Double => d = d.double().drawing,
+                Next::Step => {
+                    d = d.step().drawing;
+                    t = show(t, d, k, list);
+                }
+                Next::Refused(_) => break 'operations,
+            }
         }
         k += 1;
     }

@@ -1,4 +1,6 @@
 // The drawing engine: start, halve, double, step, choosing the next operation, and the point shown.
+#![tactic(auto)]
+
 mod choosing;
 mod cubic;
 mod quadratic;

@@ -1,4 +1,6 @@
 // Entries of a point list: stored in a lent list, read back, and the length of a move from one to the next.
+#![tactic(auto)]
+
 ghost use Rattle.std.specs.Prelude.{◌≡◌, set};
 ghost use Rattle.std.proofs.lemmas.List.Edits.{sets};
 ghost use Rattle.entries.specs.Entries.{numbers, entry_at, found};

@@ -1,5 +1,7 @@
 // Lists the sheet on standard input. A program has no exit status of its own: where standard output did not take the whole listing, standard
 // error says so.
+#![tactic(auto)]
+
 use libc::STDERR_FILENO;
 
 fn main() {

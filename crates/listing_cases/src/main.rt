@@ -1,6 +1,8 @@
 // Lists several sheets, one after another. Standard input has for each its size, in four bytes with the lowest first, and then its bytes. After a
 // size of 4,294,967,295 the rest of the input is a sheet, read and listed as the program `listing` does it. tests/stored.py makes the sheets and
 // their text.
+#![tactic(auto)]
+
 use libc::STDIN_FILENO;
 
 // The size before the last sheet, which ends where the input does.

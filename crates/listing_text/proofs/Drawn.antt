@@ -16,7 +16,7 @@ use Rattle.path.specs.declared.Drawn.{Drawn}
 use Rattle.path.specs.Path.{Path}
 use Rattle.path.specs.Entries.{entries}
 use Rattle.path.specs.Joined.{alone, shifted}
-use Rattle.path.specs.Answer.{list_written, draw_refusal, refused_by, answer, drawn, written}
+use Rattle.path.specs.Answer.{draw_refusal, refused_by, answer, drawn, written}
 use Rattle.listing_text.specs.declared.Place.{Place}
 use Rattle.listing_text.specs.Lines.{entry_lines}
 use Rattle.listing_text.specs.Pieces.{path_in, segment_at, segment_entries, added, lines_in, heading_at, piece_text}
@@ -39,7 +39,7 @@ drawn_same list e a b = (a ∙ ap (λ p. drawn p (length list)) e, b ∙ ap (λ 
 
 pub segment_read : (p : Path) (k : ℕ) (list : List ℤ)
     → entries_in (written (alone p k) list) 0 (drawn (alone p k) (length list)).points ≡ segment_entries p k (length list)
-unfolding list_written drawn segment_entries entries_in
+unfolding written drawn segment_entries entries_in
 segment_read p k list = by_number (draw_refusal (alone p k) (length list)) (entries (alone p k))
   where
     by_number : (r : ℕ) (es : List Entry) → entries_in (filled r (flat es) list) 0 (refusal_or r refused_by (answer es)).points ≡ refusal_or r (λ _. []) es
@@ -48,7 +48,7 @@ segment_read p k list = by_number (draw_refusal (alone p k) (length list)) (entr
 
 pub segment_inside : (p : Path) (k : ℕ) (list : List ℤ)
     → entry_size * (drawn (alone p k) (length list)).points ≤ length (written (alone p k) list)
-unfolding list_written drawn
+unfolding written drawn
 segment_inside p k list = by_number (draw_refusal (alone p k) (length list)) (entries (alone p k))
   where
     by_number : (r : ℕ) (es : List Entry) → entry_size * (refusal_or r refused_by (answer es)).points ≤ length (filled r (flat es) list)

@@ -26,7 +26,7 @@ pub segment_whole : (p : Path) (k room : ℕ) → path_refusal p ≡ 0 → k < p
     → segment_entries p k room ≡ entries (alone p k)
 unfolding segment_entries
 segment_whole p k room e h r =
-    rw (room_drawn (alone p k) (entries (alone p k)) room (alone_accepted p k e h) (omega (arith, segment_few p k e h)))
+    rw (room_drawn (alone p k) room (alone_accepted p k e h) (omega (arith, segment_few p k e h)))
 
 pub added_first : (p : Path) (room : ℕ) → path_refusal p ≡ 0 → 0 < p.segments → segment_room p.finest ≤ room → added p 0 room ≡ placed p 0
 unfolding added placed

@@ -9,8 +9,8 @@ use lib.IntN.{pos}
 use lib.ListN.{length, replicate, length-replicate}
 use borrow.Author.Tests.{eqb-true, eqb-false}
 use Rattle.numbers.proofs.Tables.{tested}
-use Rattle.numbers.proofs.Tests.{by_test}
 use Rattle.rules.proofs.Refusals.{among_all}
+use Rattle.path.proofs.Turns.{by_test}
 use Rattle.sheet.specs.declared.Written.{Written}
 use Rattle.sheet.specs.Bytes.{Bytes}
 use Rattle.sheet.specs.Sheet.{most_numbers, sheet_numbers}

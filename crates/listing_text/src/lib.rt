@@ -1,4 +1,5 @@
 // What a listing is: its lines, and the pieces that it is printed in. There is no code here.
+#![tactic(auto)]
 
 // A segment has at most 2^SHEET_FINEST + 1 entries: the numbers of its list.
 pub const SEGMENT_NUMBERS: usize = entries::ENTRY_SIZE * ((1 << rules::SHEET_FINEST) + 1);

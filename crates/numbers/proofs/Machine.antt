@@ -52,7 +52,7 @@ reads_back {w} e f = ap (λ (v : ℤ). to_z w (of_z w v)) e ∙ to_z-of_z f
 
 -- a number that is read out of a list is of 32 bits; j is its place in other words
 pub number_read : (l : List ℤ) (i j : ℕ) → i ≡ j → mag (get_or l i (pos 0)) < 2 ^ 31 → to_z w32 (of_z w32 (get_or l i (pos 0))) ≡ get_or l j (pos 0)
-number_read l i j e h = to_z-of_z (record { sfits = h }) ∙ ap (λ (n : ℕ). get_or l n (pos 0)) e
+number_read l i j e h = to_z-of_z {w = w32} (record { sfits = h }) ∙ ap (λ (n : ℕ). get_or l n (pos 0)) e
 
 -- ---- where a number comes from
 

@@ -2,12 +2,11 @@
 use mathlib.Core.Path.{◌≡◌, refl, sym, ap, ap₂, ◌∙◌}
 use mathlib.Core.Bool.{Bool, true, false, ◌&&◌, false≢true, true≢false}
 use mathlib.Core.List.{List, [], ◌∷◌}
-use Prim.Native.Nat.{ℕ, zero, suc, ◌<◌}
+use Prim.Native.Nat.{ℕ, zero, suc, ◌<◌, zero-le}
 use native.Mathlib.Nat.{not-suc-le-zero, zero-add, zero-lt-suc}
 use lib.Dec.{T, leb, eqb, eqb→eq, leb-suc-suc}
 use lib.IntN.{ℤ, pos, negsuc, nat_abs, neg_ℤ, ◌-ℤ◌, +ℤ_idl}
 use lib.Signed.{le_z, lt_z, non_neg}
-use borrow.Author.Rules.{zero≤}
 use borrow.Author.Tests.{ltb-true, le-leb, lt-leb, eq-eqb, ne_eqb}
 use mir.Facts.{and_yes}
 use Rattle.numbers.specs.Tests.{eqbℤ, eqbℤs}
@@ -42,7 +41,7 @@ within m z = ap (λ (low : ℤ). le_z low z && le_z z (pos m)) (+ℤ_idl (neg_�
     and_true_right false = refl
 
     from_below : (m : ℕ) (z : ℤ) → (le_z (neg_ℤ (pos m)) z && le_z z (pos m)) ≡ leb (nat_abs z) m
-    from_below zero (pos a) = ap (λ (b : Bool). b && leb a 0) (le-leb 0 a zero≤)
+    from_below zero (pos a) = ap (λ (b : Bool). b && leb a 0) (le-leb 0 a zero-le)
     from_below zero (negsuc a) = sym (lt-leb (suc a) 0 (zero-lt-suc a))
     from_below (suc m) (pos a) = refl
     from_below (suc m) (negsuc a) = and_true_right (leb a m) ∙ sym (leb-suc-suc a m)

@@ -13,14 +13,13 @@ use Rattle.rules.specs.Refusals.{unless, first_of, refusal_or, filled, Among}
 use Rattle.rules.specs.Rules.{is_finest, reach, is_level, are_limits, standard_limits, is_size, are_points, are_chained, points_refusal}
 use Rattle.rules.proofs.Laws.{standard_lawful}
 use Rattle.rules.proofs.Refusals.{rule_kept, line_among, untabled, among, first_kept, first_among, number_answered, refused_answers, filled_refused}
-use Rattle.entries.specs.declared.Entry.{Entry}
 use Rattle.entries.specs.Entries.{entry_size, flat}
 use Rattle.entries.specs.Length.{length_of}
 use Rattle.path.specs.declared.Shape.{Shape}
 use Rattle.path.specs.declared.Drawn.{Drawn}
 use Rattle.path.specs.Path.{Path, path, path_refusal}
 use Rattle.path.specs.Entries.{entries}
-use Rattle.path.specs.Answer.{list_refusal, list_written, draw_refusal, measure_table, draw_table, standard_measure_table, standard_draw_table, refused_by, answer, measured, drawn, written}
+use Rattle.path.specs.Answer.{draw_refusal, measure_table, draw_table, standard_measure_table, standard_draw_table, refused_by, answer, measured, drawn, written}
 
 -- ---- the numbers that are answered
 
@@ -46,16 +45,10 @@ path_among p size finest points chained level none limits =
     (line_among (is_level p.finest p.level) level limits)))
 
 -- and then 9
-room_among : (p : Path) (es : List Entry) (room : ℕ) {table : List ℕ} → Among (path_refusal p) table → Among 9 table → Among 0 table
-    → Among (list_refusal p es room) table
-unfolding list_refusal
-room_among p es room h nine none = first_among (path_refusal p) _ h (line_among (leb (entry_size * length es) room) nine none)
-
-pub list_refuses_as_tabled : (p : Path) (es : List Entry) (room : ℕ) → Among (list_refusal p es room) draw_table
-list_refuses_as_tabled p es room =
-    room_among p es room
-    (path_among p (among tt) (among tt) (among tt) (among tt) (among tt) (among tt) (line_among (are_limits p.upper p.lower) (among tt) (among tt)))
-    (among tt) (among tt)
+room_among : (p : Path) (room : ℕ) {table : List ℕ} → Among (path_refusal p) table → Among 9 table → Among 0 table → Among (draw_refusal p room) table
+unfolding draw_refusal
+room_among p room h nine none =
+    first_among (path_refusal p) _ h (line_among (leb (entry_size * length (entries p)) room) nine none)
 
 pub measure_refuses_as_tabled : (p : Path) → Among (measured p).refusal measure_table
 measure_refuses_as_tabled p =
@@ -63,7 +56,11 @@ measure_refuses_as_tabled p =
     (path_among p (among tt) (among tt) (among tt) (among tt) (among tt) (among tt) (line_among (are_limits p.upper p.lower) (among tt) (among tt)))
 
 pub draw_refuses_as_tabled : (p : Path) (room : ℕ) → Among (drawn p room).refusal draw_table
-draw_refuses_as_tabled p room = rw drawn_refusal (list_refuses_as_tabled p (entries p) room)
+draw_refuses_as_tabled p room =
+    rw drawn_refusal
+    (room_among p room
+    (path_among p (among tt) (among tt) (among tt) (among tt) (among tt) (among tt) (line_among (are_limits p.upper p.lower) (among tt) (among tt)))
+    (among tt) (among tt))
 
 -- and by no other number
 pub measure_refuses_nothing_else : (p : Path) → All (λ k. (measured p).refusal ≡ k → ⊥) (5 ∷ 6 ∷ 7 ∷ 8 ∷ 9 ∷ 10 ∷ [])
@@ -78,37 +75,18 @@ module _ (points : List ℤ) (shape : Shape) where
   standard_measure_refuses_as_tabled =
       rw measured_refusal (path_among _ (among tt) (among tt) (among tt) (among tt) (among tt) (among tt) (rw standard_lawful (among tt)))
 
-  pub standard_list_refuses_as_tabled : (es : List Entry) (room : ℕ) → Among (list_refusal (path points shape standard_limits) es room) standard_draw_table
-  standard_list_refuses_as_tabled es room =
-      room_among _ es room
-      (path_among _ (among tt) (among tt) (among tt) (among tt) (among tt) (among tt) (rw standard_lawful (among tt)))
-      (among tt) (among tt)
-
   pub standard_draw_refuses_as_tabled : (room : ℕ) → Among (drawn (path points shape standard_limits) room).refusal standard_draw_table
-  standard_draw_refuses_as_tabled room = rw drawn_refusal (standard_list_refuses_as_tabled _ room)
+  standard_draw_refuses_as_tabled room =
+      rw drawn_refusal
+      (room_among _ room
+      (path_among _ (among tt) (among tt) (among tt) (among tt) (among tt) (among tt) (rw standard_lawful (among tt)))
+      (among tt) (among tt))
 
   pub standard_measure_never_4 : All (λ k. (measured (path points shape standard_limits)).refusal ≡ k → ⊥) (4 ∷ 9 ∷ [])
   standard_measure_never_4 = untabled standard_measure_table (4 ∷ 9 ∷ []) standard_measure_refuses_as_tabled tt
 
   pub standard_draw_never_4 : (room : ℕ) → All (λ k. (drawn (path points shape standard_limits) room).refusal ≡ k → ⊥) (4 ∷ [])
   standard_draw_never_4 room = untabled standard_draw_table (4 ∷ []) (standard_draw_refuses_as_tabled room) tt
-
--- ---- a list that is written, the path's own or the cleaned one
-
-module _ (p : Path) (es : List Entry) where
-  pub refused_changes_nothing : (list : List ℤ) → (list_refusal p es (length list) ≡ 0 → ⊥) → list_written p es list ≡ list
-  unfolding list_written
-  refused_changes_nothing list h = filled_refused (flat es) list (list_refusal p es (length list)) h
-
-  pub list_fits : (room : ℕ) → list_refusal p es room ≡ 0 → entry_size * length es ≤ room
-  unfolding list_refusal
-  list_fits room e =
-      let size = entry_size * length es in
-      leb-true size room (rule_kept (leb size room) 8 0 (first_kept (path_refusal p) _ e).1).0
-
-  pub list-written : (list : List ℤ) → list_refusal p es (length list) ≡ 0 → list_written p es list ≡ flat es ++ drop (length (flat es)) list
-  unfolding list_written
-  list-written list e = ap (λ (k : ℕ). filled k (flat es) list) e
 
 -- ---- a refusal
 
@@ -128,13 +106,18 @@ unfolding drawn
 refused_draw_answers_zeros p room = answers_zeros (draw_refusal p room) (answer (entries p)) refl
 
 pub refused_draw_changes_nothing : (p : Path) (list : List ℤ) → ((drawn p (length list)).refusal ≡ 0 → ⊥) → written p list ≡ list
-refused_draw_changes_nothing p list h = refused_changes_nothing p (entries p) list (λ e. h (drawn_refusal p (length list) ∙ e))
+unfolding written
+refused_draw_changes_nothing p list h =
+    filled_refused (flat (entries p)) list (draw_refusal p (length list)) (λ e. h (drawn_refusal p (length list) ∙ e))
 
 -- ---- the list
 
 module _ (p : Path) (room : ℕ) where
   pub drawn_fits : (drawn p room).refusal ≡ 0 → entry_size * length (entries p) ≤ room
-  drawn_fits e = list_fits p (entries p) room (sym (drawn_refusal p room) ∙ e)
+  unfolding draw_refusal
+  drawn_fits e =
+      let size = entry_size * length (entries p) in
+      leb-true size room (rule_kept (leb size room) 8 0 (first_kept (path_refusal p) _ (sym (drawn_refusal p room) ∙ e)).1).0
 
   pub drawn_answer : (drawn p room).refusal ≡ 0
       → drawn p room ≡ record { refusal = 0; points = length (entries p); length = length_of (entries p) }
@@ -143,7 +126,7 @@ module _ (p : Path) (room : ℕ) where
 
   -- measuring refuses as drawing does but for 9, and answers the same two numbers
   pub measure_as_draw_but_for_room : ((drawn p room).refusal ≡ 9 → ⊥) → measured p ≡ drawn p room
-  unfolding measured drawn list_refusal
+  unfolding measured drawn draw_refusal
   measure_as_draw_but_for_room h =
       ap (λ (k : ℕ). refusal_or k refused_by (answer (entries p)))
       (by_room (path_refusal p) (leb (entry_size * length (entries p)) room) (λ e. h (drawn_refusal p room ∙ e)))
@@ -158,4 +141,5 @@ module _ (p : Path) (room : ℕ) where
 
 pub drawn_list : (p : Path) (list : List ℤ) → (drawn p (length list)).refusal ≡ 0
     → written p list ≡ flat (entries p) ++ drop (length (flat (entries p))) list
-drawn_list p list e = list-written p (entries p) list (sym (drawn_refusal p (length list)) ∙ e)
+unfolding written
+drawn_list p list e = ap (λ (k : ℕ). filled k (flat (entries p)) list) (sym (drawn_refusal p (length list)) ∙ e)

@@ -12,5 +12,3 @@ pub mod Goes
 pub mod Steps
 pub mod Near
 pub mod Listed
-pub mod CleanList
-pub mod CleanAnswer

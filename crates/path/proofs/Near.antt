@@ -8,7 +8,6 @@ use lib.Dec.{leb}
 use lib.IntN.{ℤ, pos, nat_abs, ◌-ℤ◌, ◌*ℤ◌}
 use lib.Pow.{pow_pos}
 use borrow.Author.Tests.{leb-true, leb-false}
-use Rattle.numbers.proofs.Tests.{by_test}
 use Rattle.rules.specs.declared.Degree.{Degree}
 use Rattle.rules.specs.declared.Degree.TheVariants.{Cubic}
 use Rattle.coordinate.specs.Control.{Control}
@@ -26,6 +25,7 @@ use Rattle.path.specs.Path.{Path, place, controls, courses}
 use Rattle.path.specs.Entries.{entry}
 use Rattle.path.specs.Listed.{begins, Placed, Near, NearInNumbers}
 use Rattle.path.proofs.Points.{segment_uses, first_point, last_point}
+use Rattle.path.proofs.Turns.{by_test}
 
 -- ---- the exact curve at a position
 

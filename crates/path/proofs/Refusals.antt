@@ -1,7 +1,6 @@
 -- The order of a path's refusals: 14 comes first, then 24, then 1 for any coordinate of the whole path, then 2 for any two neighbours, then 3, 4, 9.
 use mathlib.Core.Path.{◌≡◌, sym, ap, ◌∙◌}
 use mathlib.Core.Bool.{Bool, true, false, true≢false}
-use mathlib.Core.List.{List}
 use Prim.Native.Nat.{ℕ, ◌+◌, ◌*◌, ◌≤◌, ◌<◌}
 use lib.IntN.{pos}
 use lib.ListN.{length, get_or}
@@ -10,10 +9,10 @@ use Rattle.rules.specs.Refusals.{unless}
 use Rattle.rules.specs.Rules.{is_finest, reach, is_coordinate, are_neighbours, is_level, are_limits, coordinates, is_size, are_points, are_chained, points_refusal}
 use Rattle.rules.proofs.Refusals.{broken, first_on, first_stop}
 use Rattle.rules.proofs.Every.{points_hold, chained_hold}
-use Rattle.entries.specs.declared.Entry.{Entry}
 use Rattle.entries.specs.Entries.{entry_size}
 use Rattle.path.specs.Path.{Path, path_refusal}
-use Rattle.path.specs.Answer.{list_refusal}
+use Rattle.path.specs.Entries.{entries}
+use Rattle.path.specs.Answer.{draw_refusal}
 
 module _ (p : Path) where
   pub refuses_14 : is_size p.degree p.segments (length p.points) ≡ false → path_refusal p ≡ 14
@@ -52,17 +51,16 @@ module _ (p : Path) where
           unfolding path_refusal points_refusal
           refuses_4 l e = rw (size, finest, points, chained, l, e)
 
--- 9 comes last, for each list that is to be written: where the path itself is refused, that number is answered, however short the lent list is
-module _ (p : Path) (es : List Entry) (room : ℕ) where
-  pub refuses_before_9 : (path_refusal p ≡ 0 → ⊥) → list_refusal p es room ≡ path_refusal p
-  unfolding list_refusal
-  refuses_before_9 = first_stop (path_refusal p) _
+-- 9 comes last: where the path itself is refused, that number is answered, however short the list is
+pub refuses_before_9 : (p : Path) (room : ℕ) → (path_refusal p ≡ 0 → ⊥) → draw_refusal p room ≡ path_refusal p
+unfolding draw_refusal
+refuses_before_9 p room = first_stop (path_refusal p) _
 
-  pub refuses_9 : path_refusal p ≡ 0 → room < entry_size * length es → list_refusal p es room ≡ 9
-  unfolding list_refusal
-  refuses_9 e h = first_on _ _ e ∙ ap (λ (b : Bool). unless b 9 0) (lt-leb (entry_size * length es) room h)
+pub refuses_9 : (p : Path) (room : ℕ) → path_refusal p ≡ 0 → room < entry_size * length (entries p) → draw_refusal p room ≡ 9
+unfolding draw_refusal
+refuses_9 p room e h = first_on _ _ e ∙ ap (λ (b : Bool). unless b 9 0) (lt-leb (entry_size * length (entries p)) room h)
 
-  -- and where there is room it is written
-  pub room_drawn : path_refusal p ≡ 0 → entry_size * length es ≤ room → list_refusal p es room ≡ 0
-  unfolding list_refusal
-  room_drawn e h = first_on _ _ e ∙ ap (λ (b : Bool). unless b 9 0) (le-leb (entry_size * length es) room h)
+-- and where there is room it is drawn
+pub room_drawn : (p : Path) (room : ℕ) → path_refusal p ≡ 0 → entry_size * length (entries p) ≤ room → draw_refusal p room ≡ 0
+unfolding draw_refusal
+room_drawn p room e h = first_on _ _ e ∙ ap (λ (b : Bool). unless b 9 0) (le-leb (entry_size * length (entries p)) room h)

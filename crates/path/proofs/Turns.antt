@@ -7,7 +7,6 @@ use native.Mathlib.Nat.{le_refl, le-suc, le_of_lt, le_of_suc-le-suc, lt_of_lt_of
 use native.Mathlib.Omega.{arith}
 use lib.Dec.{ltb}
 use borrow.Author.Tests.{ltb-true, ltb-false, lt-ltb, le-ltb}
-use Rattle.numbers.proofs.Tests.{by_test}
 use Rattle.rules.specs.Refusals.{unless}
 use Rattle.operations.specs.Position.{is_drawing}
 use Rattle.operations.specs.Refusals.{gate, own_refusal, call_refusal}
@@ -21,6 +20,10 @@ use Rattle.rules.proofs.Refusals.{first_on}
 use Rattle.distance.proofs.Kept.{allowed}
 use Rattle.distance.proofs.Choice.{chosen_ruled}
 use Rattle.path.specs.Segment.{Turn, turn_at, next, turns_in, turns}
+
+pub by_test : {X : Type 0} (b : Bool) → (b ≡ true → X) → (b ≡ false → X) → X
+by_test true f g = f refl
+by_test false f g = g refl
 
 module _ (upper lower : ℕ) where
   -- the chosen operation leads to a drawing again

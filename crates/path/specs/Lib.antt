@@ -6,4 +6,3 @@ pub mod Lawful
 pub mod Joined
 pub mod Steps
 pub mod Listed
-pub mod CleanList

@@ -1,4 +1,5 @@
 // What a path's list is, and its theorems: there is no code here.
+#![tactic(auto)]
 
 use rules::Degree;
 
@@ -18,11 +19,4 @@ pub struct Drawn {
     pub refusal: u32,
     pub points: u32,
     pub length: u32,
-}
-
-// The answer to cleaning a path's list: how many entries are left, or the refusal with 0.
-#[derive(Drop)]
-pub struct Cleaned {
-    pub refusal: u32,
-    pub count: u32,
 }

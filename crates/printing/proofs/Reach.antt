@@ -10,12 +10,12 @@ use lib.Dec.{leb}
 use lib.ListN.{length, take, drop, length-drop, drop_of_length-le}
 use lib.IntN.{ℤ}
 use lib.Seq.{take_all, take-nil}
-use Rattle.numbers.proofs.Tests.{by_test}
 use Rattle.rules.specs.declared.Limits.{Limits}
 use Rattle.rules.specs.Rules.{degree, coordinates}
 use Rattle.path.specs.declared.Shape.{Shape}
 use Rattle.path.specs.Path.{path}
 use Rattle.path.specs.Joined.{alone}
+use Rattle.path.proofs.Turns.{by_test}
 use Rattle.sheet.specs.Sheet.{path_head}
 use Rattle.sheet.specs.NumberList.{path_point_numbers, path_at, path_end, sheet_of}
 use Rattle.listing_text.specs.Listing.{shape_of, limits_of}

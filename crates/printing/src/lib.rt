@@ -1,5 +1,7 @@
 // Prints the listing of a sheet: "paths N"; for each path "path I points P length G"; then each entry as position, x, y, width. It is printed a piece
 // at a time, one segment of a path after the path's line where it is the first: no buffer holds more than a segment's entries.
+#![tactic(auto)]
+
 mod lines;
 mod pieces;
 

@@ -6,8 +6,7 @@ use crate::input::{
     take_bytes, unsigned_at,
 };
 use crate::output::{
-    end_line, put_bytes, put_cleaned, put_drawn, put_moved, put_next, put_numbers, put_shown,
-    put_written,
+    end_line, put_bytes, put_drawn, put_moved, put_next, put_numbers, put_shown, put_written,
 };
 use engine::{Drawing, Moved};
 use rules::COORDINATES;
@@ -41,7 +40,7 @@ pub(crate) fn answer(
         2 | 3 | 4 => answer_operation(code, words, text),
         5 => answer_next(words, text),
         6 => answer_shown(words, text),
-        7 | 9 | 10 | 11 | 15 | 16 => answer_in_room(code, words, bytes, list, text),
+        7 | 9 | 10 | 11 => answer_in_room(code, words, bytes, list, text),
         8 => answer_measure(words, text),
         12 => answer_measure_standard(words, text),
         13 => answer_next_standard(words, text),
@@ -170,18 +169,10 @@ fn answer_in_room(
     let rest = &words[1..];
     let size = rest.len();
     match code {
+        7 => answer_draw(rest, &mut list[..room], text),
         9 => answer_read(rest, &mut bytes[..size], &mut list[..room], text),
         10 => answer_write(rest, &mut bytes[..room], text),
-        _ => answer_listed(code, rest, &mut list[..room], text),
-    }
-}
-
-fn answer_listed(code: u32, words: &[i32], list: &mut [i32], text: &mut [u8]) -> bool {
-    match code {
-        7 => answer_draw(words, list, text),
-        11 => answer_draw_standard(words, list, text),
-        15 => answer_clean(words, list, text),
-        _ => answer_clean_standard(words, list, text),
+        _ => answer_draw_standard(rest, &mut list[..room], text),
     }
 }
 
@@ -213,38 +204,6 @@ fn answer_draw_standard(words: &[i32], list: &mut [i32], text: &mut [u8]) -> boo
     let shape = shape_of(words);
     fill_numbers(list);
     let at = put_drawn(text, drawer::draw_standard(&words[SHAPE..], shape, list));
-    put_numbers(text, at, list);
-    true
-}
-
-fn answer_clean(words: &[i32], list: &mut [i32], text: &mut [u8]) -> bool {
-    if words.len() < SHAPE + LIMITS {
-        return false;
-    }
-    if !is_degree(unsigned_at(words, 0)) {
-        return false;
-    }
-    let shape = shape_of(words);
-    let limits = limits_at(words, SHAPE);
-    fill_numbers(list);
-    let at = put_cleaned(
-        text,
-        drawer::clean(&words[SHAPE + LIMITS..], shape, limits, list),
-    );
-    put_numbers(text, at, list);
-    true
-}
-
-fn answer_clean_standard(words: &[i32], list: &mut [i32], text: &mut [u8]) -> bool {
-    if words.len() < SHAPE {
-        return false;
-    }
-    if !is_degree(unsigned_at(words, 0)) {
-        return false;
-    }
-    let shape = shape_of(words);
-    fill_numbers(list);
-    let at = put_cleaned(text, drawer::clean_standard(&words[SHAPE..], shape, list));
     put_numbers(text, at, list);
     true
 }

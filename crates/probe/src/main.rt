@@ -18,6 +18,8 @@
 // DRAWING is the fifteen numbers finest level q, then a b c d of x, of y, of the width. COORDINATES come point by point, x y width. SHAPE is
 // the four numbers DEGREE segments finest level; DEGREE is 2 for a quadratic path, 3 for a cubic one. BYTES has a
 // byte a word, in its low eight bits. LIST is the `room` places that are lent, which hold -7, or 7 for bytes, before the call.
+#![tactic(auto)]
+
 mod answers;
 mod input;
 mod output;

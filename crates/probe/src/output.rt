@@ -5,7 +5,7 @@ ghost use Rattle.io.specs.Counts.{IsPrefixLen};
 use coordinate::Registers;
 use engine::{Moved, Next, Shown};
 use libc::STDOUT_FILENO;
-use path::{Cleaned, Drawn};
+use path::Drawn;
 use sheet::Written;
 
 // No number with its space is longer.
@@ -92,11 +92,6 @@ pub(crate) fn put_drawn(text: &mut [u8], drawn: Drawn) -> usize {
     let mut at = put_refusal(text, drawn.refusal);
     at = put_unsigned(text, at, drawn.points);
     put_unsigned(text, at, drawn.length)
-}
-
-pub(crate) fn put_cleaned(text: &mut [u8], cleaned: Cleaned) -> usize {
-    let at = put_refusal(text, cleaned.refusal);
-    put_unsigned(text, at, cleaned.count)
 }
 
 pub(crate) fn put_written(text: &mut [u8], written: Written) -> usize {

@@ -1,4 +1,6 @@
 // Reading a sheet: its number list, from its bytes.
+#![tactic(auto)]
+
 ghost use Rattle.std.specs.Prelude.{◌≡◌, ◌+◌, ◌*◌, ◌≤◌, ◌<◌, length};
 ghost use Rattle.std.proofs.lemmas.List.Edits.{sets};
 ghost use Rattle.sheet.specs.Bytes.{value_size, u16_at, u32_at, i16_at, values_at};

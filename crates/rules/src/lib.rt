@@ -1,4 +1,6 @@
 // The rules that every room shares: refusals 1 to 4, 14 and 24, as tests of any numbers.
+#![tactic(auto)]
+
 ghost use Rattle.std.specs.Prelude.{◌≡◌};
 ghost use Rattle.rules.specs.Rules.{is_finest, degree, most_reach, reach, is_coordinate, are_neighbours, is_level, are_limits, standard_limits, is_segments, point_numbers, is_size, head_refusal, are_points, are_chained, points_refusal, natural, marked};
 

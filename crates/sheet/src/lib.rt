@@ -1,4 +1,5 @@
 // What reading and writing a sheet have in common: the answer, and the sizes of a sheet and of its number list. No functions.
+#![tactic(auto)]
 
 // A sheet has at most so many paths, and from LEAST_BYTES, the count and the limits, to MOST_BYTES bytes; MOST_NUMBERS numbers have room for
 // every sheet's number list.

@@ -1,6 +1,8 @@
 // Runs the requests of standard input through the sheet's two entries and prints a line for each: the refusal, the count, and the whole
 // lent buffer afterwards, its values where they are at most 64 and else their check sum. tests/sheet_cases.py says what a request is, and
 // makes the requests and the lines.
+#![tactic(auto)]
+
 ghost use Rattle.std.specs.Prelude.{◌≡◌, ◌+◌, ◌≤◌, ◌<◌, length};
 
 use libc::{STDIN_FILENO, STDOUT_FILENO};

@@ -34,7 +34,7 @@ use Rattle.path.specs.declared.Drawn.{Drawn}
 use Rattle.path.specs.Path.{Path, path, path_refusal, point_at, control, first}
 use Rattle.path.specs.Segment.{turns_in, turns}
 use Rattle.path.specs.Entries.{entry, shown_by, rest, following, entries}
-use Rattle.path.specs.Answer.{list_refusal, list_written, measured, drawn, written}
+use Rattle.path.specs.Answer.{draw_refusal, measured, drawn, written}
 
 -- the control points of each coordinate, and the list: its positions, and what it shows of each coordinate; its length, where it is given
 pub record Row : Type 0 where
@@ -249,7 +249,7 @@ all_listed : (ws : List Row) → T (every right ws) → All Holds (map draws ws)
 all_listed ws t = all_map Holds draws ws (tested Listed right right_listed ws t)
 
 pub starred : All Holds table
-unfolding table moving still widening finer bending every_coordinate drawn measured list_written list_refusal path_refusal points_refusal is_finest reach is_segments is_size are_points are_chained are_beside is_coordinate
+unfolding table moving still widening finer bending every_coordinate drawn written measured draw_refusal path_refusal points_refusal is_finest reach is_segments is_size are_points are_chained are_beside is_coordinate
     are_neighbours is_level are_limits entries following rest first control point_at curve start_registers turns turns_in choose wants_halve
     wants_double increment doubled_increment is_aligned turned turn shown_by entry pixel flat length_of length_from move_length
 starred =

@@ -1,5 +1,7 @@
 // Text gathered in a lent buffer, piece after piece. Each piece is put from place `at` on, as far as the buffer reaches, and the answer is
 // the place after it.
+#![tactic(auto)]
+
 ghost use Rattle.std.specs.Prelude.{◌≡◌};
 ghost use Rattle.std.proofs.lemmas.List.Edits.{sets};
 ghost use Rattle.text.specs.Decimal.{decimal, numeral};

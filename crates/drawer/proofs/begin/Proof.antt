@@ -1,8 +1,9 @@
 -- The entry is that of the first drawing, which stands at 0.
+use Prim.Native.Nat.{zero-le}
 use mathlib.Core.Path.{sym, ap, ◌∙◌, subst}
 use native.Mathlib.Omega.{arith}
 use lib.Seq.{sets}
-use borrow.Author.Rules.{rules, zero≤}
+use borrow.Author.Rules.{rules}
 use Rattle.engine.specs.declared.Drawing.{Drawing}
 use Rattle.engine.proofs.Accepted.{accepted}
 use Rattle.entries.specs.declared.Entry.{Entry}
@@ -21,7 +22,7 @@ unfolding first
 entry-of-requires c κs =
     let s = c.before in
     let finest = (accepted s.args.shape.degree s.args.shape.finest _ _ s.requires.accepted).fine.most in
-    subst (λ (d : Drawing). Placed d 0) (sym c.first-of.ensures) (record { few = omega arith; finest = finest; within = zero≤ })
+    subst (λ (d : Drawing). Placed d 0) (sym c.first-of.ensures) (record { few = omega arith; finest = finest; within = zero-le })
 
 put-requires : tie.Need-put-requires
 put-requires c κs = search rules

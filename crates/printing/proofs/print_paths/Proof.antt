@@ -8,8 +8,8 @@ use lib.Dec.{ltb}
 use lib.IntN.{ℤ}
 use lib.ListN.{length}
 use lib.Seq.{length-sets, length-take-le}
-use Rattle.numbers.proofs.Tests.{by_test}
 use Rattle.sheet.specs.NumberList.{number_at, sheet_of}
+use Rattle.path.proofs.Turns.{by_test}
 use Rattle.text.proofs.Pieces.{put_inside}
 use Rattle.listing_text.specs.declared.Place.{Place}
 use Rattle.listing_text.specs.Lines.{paths_word, end, named}

@@ -1,12 +1,12 @@
 -- The position is below 2^31, and the point is the one shown.
 use mathlib.Core.Path.{◌≡◌, ap, ◌∙◌}
-use Prim.Native.Nat.{ℕ, ◌+◌, ◌*◌, ◌%◌, ◌^◌, ◌≤◌, ◌<◌}
+use Prim.Native.Nat.{ℕ, ◌+◌, ◌*◌, ◌%◌, ◌^◌, ◌≤◌, ◌<◌, zero-le}
 use native.Mathlib.Nat.{mod-eq_of_lt, mul_comm}
 use native.Mathlib.Omega.{arith}
 use mir.Syntax.{w32}
 use mir.Val.{to_z}
 use mir.Facts.{to_z_pos, to_z-of_z}
-use borrow.Author.Rules.{rules, zero≤}
+use borrow.Author.Rules.{rules}
 use Rattle.engine.specs.declared.Shown.{Shown}
 use Rattle.engine.specs.Shown.{point}
 use Rattle.path.specs.Entries.{entry}
@@ -19,7 +19,7 @@ shl-position c = search rules
 
 -- segment k starts at k shifted by the finest level
 start : (F k : ℕ) → F ≤ 12 → k < 64 → k * 2 ^ F % 4294967296 ≡ 2 ^ F * k
-start F k f h = mod-eq_of_lt (omega (arith, position_most F k 0 f h zero≤, mul_comm k (2 ^ F))) ∙ mul_comm k (2 ^ F)
+start F k f h = mod-eq_of_lt (omega (arith, position_most F k 0 f h zero-le, mul_comm k (2 ^ F))) ∙ mul_comm k (2 ^ F)
 
 add-position : tie.Need-overflow-add-position
 add-position c =

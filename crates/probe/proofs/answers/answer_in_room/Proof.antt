@@ -26,6 +26,15 @@ part-rest-start c = search rules
 part-rest-end : tie.Need-slice-bounds-rest-end
 part-rest-end c = search rules
 
+slice-relend-prefix-answer-draw : tie.Need-slice-relend-prefix-answer-draw
+slice-relend-prefix-answer-draw c = search rules
+
+slice-aggregate-answer-draw : tie.Need-slice-aggregate-answer-draw
+slice-aggregate-answer-draw c = sym (length-take-le _ _ (slice-relend-prefix-answer-draw c.before))
+
+answer-draw-requires : tie.Need-answer-draw-requires
+answer-draw-requires c κs = search rules
+
 slice-relend-prefix-answer-read : tie.Need-slice-relend-prefix-answer-read
 slice-relend-prefix-answer-read c = search rules
 
@@ -50,14 +59,14 @@ slice-aggregate-answer-write c = sym (length-take-le _ _ (slice-relend-prefix-an
 answer-write-requires : tie.Need-answer-write-requires
 answer-write-requires c κs = search rules
 
-slice-relend-prefix-answer-listed : tie.Need-slice-relend-prefix-answer-listed
-slice-relend-prefix-answer-listed c = search rules
+slice-relend-prefix-answer-draw-standard : tie.Need-slice-relend-prefix-answer-draw-standard
+slice-relend-prefix-answer-draw-standard c = search rules
 
-slice-aggregate-answer-listed : tie.Need-slice-aggregate-answer-listed
-slice-aggregate-answer-listed c = sym (length-take-le _ _ (slice-relend-prefix-answer-listed c.before))
+slice-aggregate-answer-draw-standard : tie.Need-slice-aggregate-answer-draw-standard
+slice-aggregate-answer-draw-standard c = sym (length-take-le _ _ (slice-relend-prefix-answer-draw-standard c.before))
 
-answer-listed-requires : tie.Need-answer-listed-requires
-answer-listed-requires c κs = search rules
+answer-draw-standard-requires : tie.Need-answer-draw-standard-requires
+answer-draw-standard-requires c κs = search rules
 
 same_length : tie.Need-same-length
 same_length c = search rules
@@ -65,11 +74,11 @@ same_length c = search rules
 same-length-2 : tie.Need-same-length-2
 same-length-2 c = search rules
 
-same-length-3 : tie.Need-same-length-3
-same-length-3 c = search rules
-
 returns-3 : tie.Need-returns-3
 returns-3 c = search rules
+
+same-length-3 : tie.Need-same-length-3
+same-length-3 c = search rules
 
 same-length-4 : tie.Need-same-length-4
 same-length-4 c = search rules
@@ -89,6 +98,15 @@ same-length-7 c = search rules
 returns-5 : tie.Need-returns-5
 returns-5 c = search rules
 
+same-length-8 : tie.Need-same-length-8
+same-length-8 c = search rules
+
+same-length-9 : tie.Need-same-length-9
+same-length-9 c = search rules
+
+returns-6 : tie.Need-returns-6
+returns-6 c = search rules
+
 pub answer_in_room_spec : {M : Type 1} → statement M
 answer_in_room_spec =
     tie.close
@@ -100,6 +118,9 @@ answer_in_room_spec =
     sub-rest
     part-rest-start
     part-rest-end
+    slice-relend-prefix-answer-draw
+    slice-aggregate-answer-draw
+    answer-draw-requires
     slice-relend-prefix-answer-read
     slice-aggregate-answer-read
     slice-relend-prefix-answer-read-2
@@ -108,16 +129,19 @@ answer_in_room_spec =
     slice-relend-prefix-answer-write
     slice-aggregate-answer-write
     answer-write-requires
-    slice-relend-prefix-answer-listed
-    slice-aggregate-answer-listed
-    answer-listed-requires
+    slice-relend-prefix-answer-draw-standard
+    slice-aggregate-answer-draw-standard
+    answer-draw-standard-requires
     same_length
     same-length-2
-    same-length-3
     returns-3
+    same-length-3
     same-length-4
     same-length-5
     returns-4
     same-length-6
     same-length-7
-    returns-5)
+    returns-5
+    same-length-8
+    same-length-9
+    returns-6)
