@@ -35,11 +35,10 @@ returns-then-not-neighbours c =
     sym (sym c.loop-j.invariant.1 ∙ beside_stop _ _ _ _ _ (inside (goal.at.returns-then-not-neighbours c).In-loop-j) c.loop-j-test.true (sym (asked (goal.at.returns-then-not-neighbours c).After-neighbours) ∙ c.if-not-neighbours.true))
 
 pub loop-j-preserved : goal.loop-j-preserved
-loop-j-preserved c =
-    (
-      omega (arith, c.loop-j.invariant.0),
-      beside_on _ _ _ _ _ (inside (goal.at.loop-j-preserved c).In-loop-j) c.loop-j-test.true (sym (asked (goal.at.loop-j-preserved c).After-neighbours) ∙ c.if-not-neighbours.false) ∙ c.loop-j.invariant.1,
-    )
+loop-j-preserved c = (
+  omega (arith, c.loop-j.invariant.0),
+  beside_on _ _ _ _ _ (inside (goal.at.loop-j-preserved c).In-loop-j) c.loop-j-test.true (sym (asked (goal.at.loop-j-preserved c).After-neighbours) ∙ c.if-not-neighbours.false) ∙ c.loop-j.invariant.1,
+)
 
 pub returns : goal.returns
 returns c = sym (sym c.loop-j.invariant.1 ∙ beside_end _ _ _ _ c.loop-j-test.false)

@@ -1,0 +1,24 @@
+use mathlib.Core.Path.{◌≡◌, refl, sym, ap, ◌∙◌, subst}
+use mathlib.Core.List.{List, [], ◌∷◌}
+use Prim.Native.Nat.{ℕ, ◌+◌, ◌-◌, ◌≤◌, ◌<◌}
+use native.Mathlib.Numerals.{add-one}
+use native.Mathlib.Omega.{arith}
+use borrow.Author.Tests.{ltb-true, ltb-false}
+use lib.ListN.{length, get_or, drop, set, length-set, drop_of_length-le}
+use lib.Seq.{drop-cons}
+use Rattle.numbers.proofs.Buffers.{Ahead, here, stored_one, stored_all, sets_out}
+use Rattle.text.specs.Reached.{reached}
+use Rattle.text.proofs.Pieces.{Put}
+use Rattle.text.proofs.put.Given as goal
+
+-- text l at place n, with `rest` to come, and text k at place m, with `all` to come
+pub record Filling (l : List ℕ) (n : ℕ) (rest : List ℕ) (k : List ℕ) (m : ℕ) (all : List ℕ) : Type 0 where
+  pub ahead : Ahead l n rest k m all
+  pub same : length l ≡ length k
+  pub inside : n ≤ length l
+
+abbrev pub invariant-loop-from : goal.invariant-loop-from
+invariant-loop-from l = Filling l.text l.to (drop l.from l.piece) l.initial.text l.initial.to (drop l.initial.from l.piece)
+
+abbrev pub decreases-loop-from : goal.decreases-loop-from
+decreases-loop-from l = length l.piece - l.from
