@@ -2,7 +2,7 @@
 #![tactic(auto)]
 
 // The registers of one coordinate, in 65,536ths of a unit.
-#[derive(Drop)]
+#[derive(Clone, Copy)]
 pub struct Registers {
     pub a: i32,
     pub b: i32,
@@ -11,7 +11,7 @@ pub struct Registers {
 }
 
 // One coordinate of a curve's control points, the first point first.
-#[derive(Drop)]
+#[derive(Clone, Copy)]
 pub struct Cubic {
     pub p0: i32,
     pub p1: i32,
@@ -19,7 +19,7 @@ pub struct Cubic {
     pub p3: i32,
 }
 
-#[derive(Drop)]
+#[derive(Clone, Copy)]
 pub struct Quadratic {
     pub p0: i32,
     pub p1: i32,

@@ -19,7 +19,7 @@ use rules::Limits;
 use segments::{entry_of, first_of};
 
 // What was drawn so far.
-#[derive(Drop)]
+#[derive(Clone, Copy)]
 struct Tally {
     points: u32,
     length: u32,

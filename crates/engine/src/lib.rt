@@ -28,7 +28,7 @@ use starting::begin;
 use turning::{double_one, halve_one, land, pixel_of, refuse, step_one};
 
 // A drawing at level `level` and position `q`, which counts 2^finest-ths of the parameter.
-#[derive(Drop)]
+#[derive(Clone, Copy)]
 pub struct Drawing {
     pub finest: u32,
     pub level: u32,
@@ -39,14 +39,14 @@ pub struct Drawing {
 }
 
 // A drawing, and the number by which a call was refused: 0 where it was not.
-#[derive(Drop)]
+#[derive(Clone, Copy)]
 pub struct Moved {
     pub refusal: u32,
     pub drawing: Drawing,
 }
 
 // The next operation, or the number by which the question was refused.
-#[derive(Drop)]
+#[derive(Clone, Copy)]
 pub enum Next {
     Halve,
     Double,
@@ -55,7 +55,7 @@ pub enum Next {
 }
 
 // The point shown: its pixel, and the width there.
-#[derive(Drop)]
+#[derive(Clone, Copy)]
 pub struct Shown {
     pub x: i32,
     pub y: i32,

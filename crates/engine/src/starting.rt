@@ -13,7 +13,7 @@ use crate::{Drawing, Moved};
 use coordinate::Registers;
 
 // The coefficients A, B, C and D of one coordinate's curve.
-#[derive(Drop)]
+#[derive(Clone, Copy)]
 pub(crate) struct Coefficients {
     pub(crate) a: i32,
     pub(crate) b: i32,
@@ -22,7 +22,7 @@ pub(crate) struct Coefficients {
 }
 
 // One coordinate of a start: whether it keeps rules 1 and 2, and where it keeps both its coefficients.
-#[derive(Drop)]
+#[derive(Clone, Copy)]
 pub(crate) struct Checked {
     pub(crate) inside: bool,
     pub(crate) near: bool,

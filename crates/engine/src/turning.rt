@@ -10,7 +10,7 @@ use crate::{Drawing, Moved};
 use coordinate::Registers;
 
 // The registers of one coordinate before it is known that they fit 32 bits.
-#[derive(Drop)]
+#[derive(Clone, Copy)]
 pub(crate) struct Wide {
     pub(crate) a: i64,
     pub(crate) b: i64,

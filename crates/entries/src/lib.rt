@@ -10,7 +10,7 @@ ghost use Rattle.entries.specs.Length.{move_length};
 pub const ENTRY_SIZE: usize = 4;
 
 // An entry: its position on the path, its pixel, and the width there.
-#[derive(Drop)]
+#[derive(Clone, Copy)]
 pub struct Entry {
     pub position: i32,
     pub x: i32,
@@ -19,7 +19,7 @@ pub struct Entry {
 }
 
 // An entry that was asked for, where the list reaches that far.
-#[derive(Drop)]
+#[derive(Clone, Copy)]
 pub enum Found {
     Here(Entry),
     Outside,

@@ -5,7 +5,7 @@
 pub const SEGMENT_NUMBERS: usize = entries::ENTRY_SIZE * ((1 << rules::SHEET_FINEST) + 1);
 
 // What was printed: by what number the sheet is refused, 0 for none; how many bytes its listing has; and whether standard output took them all.
-#[derive(Drop)]
+#[derive(Clone, Copy)]
 pub struct Output {
     pub refusal: u32,
     pub count: usize,
@@ -13,7 +13,7 @@ pub struct Output {
 }
 
 // Where a listing stands: path `path` is next, its numbers start at number `at`, and of its segments `segment` is next.
-#[derive(Drop)]
+#[derive(Clone, Copy)]
 pub struct Place {
     pub path: u32,
     pub at: usize,
@@ -21,7 +21,7 @@ pub struct Place {
 }
 
 // A piece of a listing: how many bytes of text, and where the listing stands after it.
-#[derive(Drop)]
+#[derive(Clone, Copy)]
 pub struct Piece {
     pub count: usize,
     pub next: Place,

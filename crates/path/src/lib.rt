@@ -5,7 +5,7 @@ use rules::Degree;
 
 // How a path is drawn, beside its points and limits: so many segments of a degree, positions that count 2^finest-ths of each, and one start level
 // for all.
-#[derive(Drop)]
+#[derive(Clone, Copy)]
 pub struct Shape {
     pub degree: Degree,
     pub segments: u32,
@@ -14,7 +14,7 @@ pub struct Shape {
 }
 
 // The answer to drawing or measuring a path: the number of points and the length, or the refusal with 0 for both.
-#[derive(Drop)]
+#[derive(Clone, Copy)]
 pub struct Drawn {
     pub refusal: u32,
     pub points: u32,

@@ -24,7 +24,7 @@ pub const MOST_POINT_NUMBERS: usize = COORDINATES * (3 * MOST_SEGMENTS as usize 
 const QUADRATIC_MARK: u32 = 256;
 
 // The degree of a path's curves.
-#[derive(Drop)]
+#[derive(Clone, Copy)]
 pub enum Degree {
     Quadratic,
     Cubic,
@@ -53,7 +53,7 @@ impl Degree {
 }
 
 // The limits by which an operation is chosen, in 65,536ths of a unit.
-#[derive(Drop)]
+#[derive(Clone, Copy)]
 pub struct Limits {
     pub upper: u32,
     pub lower: u32,
@@ -209,7 +209,7 @@ pub fn natural(z: i32) -> u32
 }
 
 // The degree and the start level of a path, which a sheet and its number list have in one number, the mark.
-#[derive(Drop)]
+#[derive(Clone, Copy)]
 pub struct Marked {
     pub degree: Degree,
     pub level: u32,

@@ -24,7 +24,7 @@ pub const LIST_HEAD: usize = 3;
 pub const PATH_HEAD: usize = 2;
 
 // The answer: how many numbers or bytes were written, or the refusal with 0.
-#[derive(Drop)]
+#[derive(Clone, Copy)]
 pub struct Written {
     pub refusal: u32,
     pub count: u32,
