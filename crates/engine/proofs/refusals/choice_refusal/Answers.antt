@@ -1,0 +1,14 @@
+-- The limits first, then the gate.
+use mathlib.Core.Path.{sym, ◌∙◌}
+use borrow.Author.Rules.{rules}
+use borrow.Author.Tests.{not-true, not-false}
+use Rattle.operations.specs.Refusals.{choice_refusal}
+use Rattle.engine.proofs.refusals.choice_refusal.Goals as goal
+
+pub returns-then-not-lawful : goal.returns-then-not-lawful
+unfolding choice_refusal
+returns-then-not-lawful c = simp (sym c.lawful.ensures ∙ c.if-not-lawful.true)
+
+pub returns : goal.returns
+unfolding choice_refusal
+returns c = c.gate.ensures ∙ simp (sym c.lawful.ensures ∙ c.if-not-lawful.false)

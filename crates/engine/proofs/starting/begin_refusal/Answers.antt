@@ -1,0 +1,40 @@
+-- Each return rewrites the table `begin_refusal` with the tests that led there.
+use mathlib.Core.Path.{◌≡◌, sym, ◌∙◌}
+use mathlib.Core.Bool.{true}
+use borrow.Author.Rules.{rules}
+use borrow.Author.Tests.{not-true, not-false}
+use Rattle.rules.specs.Rules.{is_finest}
+use Rattle.operations.specs.Refusals.{begin_refusal}
+use Rattle.engine.proofs.starting.begin_refusal.Goals as goal
+use Rattle.engine.proofs.starting.begin_refusal.Goals.{Else-not-finest, Else-not-inside, Else-not-near}
+
+fine : (c : Else-not-finest) → is_finest c.args.finest ≡ true
+fine c = sym c.finest.ensures ∙ c.if-not-finest.false
+
+inside : (c : Else-not-inside) → c.args.inside ≡ true
+inside c = c.if-not-inside.false
+
+near : (c : Else-not-near) → c.args.near ≡ true
+near c = c.if-not-near.false
+
+pub returns-then-not-finest : goal.returns-then-not-finest
+unfolding begin_refusal
+returns-then-not-finest c = simp (sym c.finest.ensures ∙ c.if-not-finest.true)
+
+pub returns-then-not-inside : goal.returns-then-not-inside
+unfolding begin_refusal
+returns-then-not-inside c = simp (fine (goal.at.returns-then-not-inside c).Else-not-finest, c.if-not-inside.true)
+
+pub returns-then-not-near : goal.returns-then-not-near
+unfolding begin_refusal
+returns-then-not-near c = simp (fine (goal.at.returns-then-not-near c).Else-not-finest, inside (goal.at.returns-then-not-near c).Else-not-inside, c.if-not-near.true)
+
+pub returns-then-not-level : goal.returns-then-not-level
+unfolding begin_refusal
+returns-then-not-level c =
+    simp (fine (goal.at.returns-then-not-level c).Else-not-finest, inside (goal.at.returns-then-not-level c).Else-not-inside, near (goal.at.returns-then-not-level c).Else-not-near, sym c.level.ensures ∙ c.if-not-level.true)
+
+pub returns : goal.returns
+unfolding begin_refusal
+returns c =
+    simp (fine (goal.at.returns c).Else-not-finest, inside (goal.at.returns c).Else-not-inside, near (goal.at.returns c).Else-not-near, sym c.level.ensures ∙ c.if-not-level.false)
