@@ -2,7 +2,8 @@
 // error says so.
 #![tactic(auto)]
 
-use libc::STDERR_FILENO;
+const STDERR_FILENO: i32 = 2;
+
 
 fn main() {
     let mut sheet = printing::sheet_buffer();

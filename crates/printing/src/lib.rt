@@ -13,11 +13,14 @@ ghost use Rattle.sheet.specs.Writing.{list_refusal};
 ghost use Rattle.listing_text.specs.Listing.{sheet_text, listing};
 ghost use Rattle.listing_text.specs.Pieces.{segment_numbers, text_size};
 
-use libc::{STDIN_FILENO, STDOUT_FILENO};
 use lines::put_line;
 use listing_text::{Output, Place, SEGMENT_NUMBERS};
 use pieces::{number_at, piece_at};
 use sheet::{LIST_HEAD, MOST_BYTES, MOST_NUMBERS};
+
+const STDIN_FILENO: i32 = 0;
+
+const STDOUT_FILENO: i32 = 1;
 
 // Prints the listing of a sheet. Whether standard output took all of it, `whole`, no contract can say.
 pub fn print(sheet: &[u8]) -> Output

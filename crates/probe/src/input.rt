@@ -6,9 +6,10 @@ ghost use Rattle.probe.specs.Words.{word_at, unsigned_at, control_at, registers_
 
 use coordinate::{Cubic, Quadratic, Registers};
 use engine::Drawing;
-use libc::STDIN_FILENO;
 use path::Shape;
 use rules::{COORDINATES, Degree, Limits};
+
+const STDIN_FILENO: i32 = 0;
 
 // Fills `words` from standard input, by way of `bytes`; false where the input ends before.
 pub(crate) fn take_words(bytes: &mut [u8], words: &mut [i32]) -> bool

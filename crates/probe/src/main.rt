@@ -28,8 +28,9 @@ ghost use Rattle.std.specs.Prelude.{◌≡◌, ◌≤◌, length};
 
 use answers::answer;
 use input::{take_words, word_at};
-use libc::STDIN_FILENO;
 use output::refuse;
+
+const STDIN_FILENO: i32 = 0;
 
 // The most arguments of a request.
 const MOST_WORDS: u32 = 16400;

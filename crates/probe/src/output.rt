@@ -4,9 +4,10 @@ ghost use Rattle.io.specs.Counts.{IsPrefixLen};
 
 use coordinate::Registers;
 use engine::{Moved, Next, Shown};
-use libc::STDOUT_FILENO;
 use path::Drawn;
 use sheet::Written;
+
+const STDOUT_FILENO: i32 = 1;
 
 // No number with its space is longer.
 const FREE: usize = 32;
