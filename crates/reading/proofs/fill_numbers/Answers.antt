@@ -59,7 +59,7 @@ pub bounds-numbers-1 : goal.bounds-numbers-1
 bounds-numbers-1 c = simp length-set (omega (arith, room _ _ c.requires.accepted c.requires.room))
 
 pub u32_at-requires-2 : goal.u32_at-requires-2
-u32_at-requires-2 c = (headed _ c.requires.accepted).least
+u32_at-requires-2 c = omega (arith, (headed _ c.requires.accepted).least)
 
 pub overflow_cast-numbers-3 : goal.overflow_cast-numbers-3
 overflow_cast-numbers-3 c = record { sfits = omega (arith, lower_small _ c.requires.accepted c.u32_at-2.ensures) }
