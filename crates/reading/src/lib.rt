@@ -17,8 +17,8 @@ use sheet::{
 // Reads a sheet's number list into the front of `numbers`. Refuses 11, 12, 4; per record 13, 15, 14, 3, 15, 1, 2; 16, 9, with `numbers` as
 // they were.
 pub fn read(sheet: &[u8], numbers: &mut [i32]) -> Written
-    ensures value { result ≡ read_answer sheet.now (length numbers.old) }
-    ensures numbers_after { numbers.new ≡ numbers_read sheet.now numbers.old }
+    ensures answer { result ≡ read_answer sheet.now (length numbers.old) }
+    ensures list_after { numbers.new ≡ numbers_read sheet.now numbers.old }
 {
     let refusal = sheet_refusal(sheet);
     if refusal != 0 {
@@ -154,8 +154,8 @@ fn number_count(sheet: &[u8]) -> usize
 }
 
 fn fill_numbers(sheet: &[u8], numbers: &mut [i32])
-    requires sheet_value { sheet_refusal sheet.now ≡ 0 }
-    requires sheet_in_bounds { length (sheet_numbers (sheet_at sheet.now)) ≤ length numbers.old }
+    requires accepted { sheet_refusal sheet.now ≡ 0 }
+    requires room { length (sheet_numbers (sheet_at sheet.now)) ≤ length numbers.old }
     ensures { numbers.new ≡ sets numbers.old 0 (sheet_numbers (sheet_at sheet.now)) }
 {
     let paths = u32_at(sheet, 0);

@@ -19,7 +19,7 @@ use sheet::{
 // Writes the sheet of a number list into the front of `sheet`. Refuses 17, 12, 4; per path 17, 14, 3, 17, 1, 2; 17, 11, 9, with `sheet` as
 // it was.
 pub fn write(numbers: &[i32], sheet: &mut [u8]) -> Written
-    ensures value { result ≡ write_answer numbers.now (length sheet.old) }
+    ensures answer { result ≡ write_answer numbers.now (length sheet.old) }
     ensures sheet_after { sheet.new ≡ bytes_written numbers.now sheet.old }
 {
     let refusal = list_refusal(numbers);
@@ -147,8 +147,8 @@ fn byte_count(numbers: &[i32]) -> usize
 }
 
 fn fill_sheet(numbers: &[i32], sheet: &mut [u8])
-    requires numbers_value { list_refusal numbers.now ≡ 0 }
-    requires numbers_in_bounds { length (sheet_bytes (sheet_of numbers.now)) ≤ length sheet.old }
+    requires accepted { list_refusal numbers.now ≡ 0 }
+    requires room { length (sheet_bytes (sheet_of numbers.now)) ≤ length sheet.old }
     ensures { sheet.new ≡ sets sheet.old 0 (sheet_bytes (sheet_of numbers.now)) }
 {
     let paths = number_at(numbers, 0);
@@ -161,8 +161,8 @@ fn fill_sheet(numbers: &[i32], sheet: &mut [u8])
 
 // The offsets of `paths` records, the first after the header.
 fn put_offsets(numbers: &[i32], paths: u32, sheet: &mut [u8])
-    requires list_head_value { paths_refusal numbers.now paths list_head ≡ 0 }
-    requires numbers_bound { (head_size paths + value_size * length numbers.now ≤ 2 * most_bytes) × (head_size paths ≤ length sheet.old) }
+    requires accepted { paths_refusal numbers.now paths list_head ≡ 0 }
+    requires room { (head_size paths + value_size * length numbers.now ≤ 2 * most_bytes) × (head_size paths ≤ length sheet.old) }
     ensures { sheet.new ≡ sets sheet.old least_bytes (offsets (head_size paths) (paths_at numbers.now paths list_head)) }
 {
     let mut place = head_size(paths);
@@ -181,8 +181,8 @@ fn put_offsets(numbers: &[i32], paths: u32, sheet: &mut [u8])
 
 // The numbers of the paths, in sixteen bits each, from place p on.
 fn put_values(numbers: &[i32], sheet: &mut [u8], p: usize)
-    requires all { All Short (drop list_head numbers.now) }
-    requires numbers_bound { p + value_size * length numbers.now ≤ value_size * list_head + length sheet.old }
+    requires short { All Short (drop list_head numbers.now) }
+    requires room { p + value_size * length numbers.now ≤ value_size * list_head + length sheet.old }
     ensures { sheet.new ≡ sets sheet.old p (value_bytes (drop list_head numbers.now)) }
 {
     let mut from = LIST_HEAD;

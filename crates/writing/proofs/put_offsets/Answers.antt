@@ -1,0 +1,100 @@
+-- Each turn stores the place of one path's record: the sheet with all that is to come is that of the loop's start.
+use mathlib.Core.Path.{◌≡◌}
+use mathlib.Core.List.{List, [], ◌++◌}
+use Prim.Native.Nat.{ℕ, zero, suc, ◌+◌, ◌-◌, ◌*◌, ◌≤◌, ◌<◌}
+use native.Mathlib.Omega.{arith}
+use lib.IntN.{ℤ}
+use lib.ListN.{length}
+use lib.Seq.{sets}
+use Rattle.numbers.proofs.Buffers.{Ahead, then, stored, stored_all}
+use Rattle.sheet.specs.Bytes.{value_size, le32}
+use Rattle.sheet.specs.Sheet.{offset_size, path_head, record_head, offsets}
+use Rattle.sheet.specs.NumberList.{path_point_numbers, path_at, path_end, paths_at}
+use Rattle.sheet.specs.Writing.{path_refusal, paths_refusal}
+use Rattle.sheet.proofs.Sheets.{length_record}
+use Rattle.sheet.proofs.Writing.{paths_kept, path_fits, path-points}
+use Rattle.writing.proofs.put_offsets.Goals as goal
+use Rattle.writing.proofs.put_offsets.Goals.{After-path_point_numbers-n, In-loop-left}
+
+-- ---- in a turn the path at `at` has no refusal, so that all its numbers are there
+
+kept : (c : In-loop-left)
+    → let l = c.args.numbers.now in
+    (path_refusal l c.loop-left.at ≡ 0) × (paths_refusal l (c.loop-left.left - 1) (path_end l c.loop-left.at) ≡ 0)
+kept c = paths_kept c.args.numbers.now c.loop-left.left c.loop-left.at c.loop-left-test.true c.loop-left.invariant.3
+
+inside : (c : In-loop-left) → path_end c.args.numbers.now c.loop-left.at ≤ length c.args.numbers.now
+inside c = path_fits c.args.numbers.now c.loop-left.at (kept c).0
+
+pub overflow_cast-place : goal.overflow_cast-place
+overflow_cast-place c = omega (arith, inside (goal.at.overflow_cast-place c).In-loop-left)
+
+pub path_point_numbers-n-requires : goal.path_point_numbers-n-requires
+path_point_numbers-n-requires c = omega (arith, inside (goal.at.path_point_numbers-n-requires c).In-loop-left)
+
+-- ---- its end
+
+end : (c : After-path_point_numbers-n)
+    → c.loop-left.at + (path_head + c.path_point_numbers-n.result) ≡ path_end c.args.numbers.now c.loop-left.at
+end c = omega (arith, c.path_point_numbers-n.ensures)
+
+pub overflow_mul-place : goal.overflow_mul-place
+overflow_mul-place c =
+    let at = goal.at.overflow_mul-place c in
+    omega (arith, end at.After-path_point_numbers-n, inside at.In-loop-left)
+
+pub overflow_add-place : goal.overflow_add-place
+overflow_add-place c =
+    let at = goal.at.overflow_add-place c in
+    omega (arith, end at.After-path_point_numbers-n, inside at.In-loop-left)
+
+pub overflow_add-place-in-loop-left : goal.overflow_add-place-in-loop-left
+overflow_add-place-in-loop-left c =
+    let at = goal.at.overflow_add-place-in-loop-left c in
+    omega (arith, end at.After-path_point_numbers-n, inside at.In-loop-left)
+
+pub overflow_add-at : goal.overflow_add-at
+overflow_add-at c =
+    let at = goal.at.overflow_add-at c in
+    omega (arith, end at.After-path_point_numbers-n, inside at.In-loop-left)
+
+pub overflow_add-at-in-loop-left : goal.overflow_add-at-in-loop-left
+overflow_add-at-in-loop-left c =
+    let at = goal.at.overflow_add-at-in-loop-left c in
+    omega (arith, end at.After-path_point_numbers-n, inside at.In-loop-left)
+
+-- the next path's offset, and those after it
+offsets_more : (l : List ℤ) (place n i : ℕ) → 0 < n → path_refusal l i ≡ 0
+    → offsets place (paths_at l n i)
+    ≡ le32 place ++ offsets (place + (record_head + value_size * path_point_numbers l i)) (paths_at l (n - 1) (path_end l i))
+unfolding paths_at offsets
+offsets_more l place zero i h e = absurd (omega arith)
+offsets_more l place (suc n) i h e =
+    let left : suc n - 1 ≡ n = omega arith in
+    rw (left, length_record (path_at l i), path-points l i e)
+
+offsets_end : (l : List ℤ) (place n i : ℕ) → n ≡ 0 → offsets place (paths_at l n i) ≡ []
+unfolding paths_at offsets
+offsets_end l place n i z = rw z
+
+-- the bytes stored are the next to come
+turn : {sheet₀ sheet after : List ℕ} {to₀ to : ℕ} {all : List ℕ} (numbers : List ℤ) (place left at n : ℕ) → 0 < left
+    → path_refusal numbers at ≡ 0 → n ≡ path_point_numbers numbers at → after ≡ sets sheet to (le32 place)
+    → Ahead sheet to (offsets place (paths_at numbers left at)) sheet₀ to₀ all
+    → Ahead after (to + offset_size) (offsets (place + (record_head + value_size * n)) (paths_at numbers (left - 1) (at + (path_head + n)))) sheet₀ to₀ all
+turn {sheet = sheet} {to = to} numbers place left at n some right points bytes ahead =
+    let next : at + (path_head + n) ≡ path_end numbers at = omega arith in
+    rw (bytes, next, points) (then (stored sheet to (le32 place) _) (rw (offsets_more numbers place left at some right) at ahead))
+
+pub loop-left-preserved : goal.loop-left-preserved
+loop-left-preserved c =
+    let at = goal.at.loop-left-preserved c in
+    let path = kept at.In-loop-left in
+    let ahead =
+    turn c.args.numbers.now _ _ _ _ c.loop-left-test.true path.0 c.path_point_numbers-n.ensures c.put_u32.ensures c.loop-left.invariant.4 in
+    (omega arith, omega arith, omega arith, rw (end at.After-path_point_numbers-n) path.1, ahead)
+
+pub returns : goal.returns
+returns c =
+    let none : c.loop-left.left ≡ 0 = omega arith in
+    rw (← c.head_size-place.ensures) (stored_all (offsets_end _ c.loop-left.place _ c.loop-left.at none) c.loop-left.invariant.4)
