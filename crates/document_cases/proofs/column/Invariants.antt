@@ -1,9 +1,6 @@
+-- The loop carries nothing; the measure is what is left of the points.
 use Prim.Native.Nat.{◌-◌}
-use borrow.Author.Rules.{rules}
 use Rattle.document_cases.proofs.column.Given as goal
 
-abbrev pub invariant-loop-i : goal.invariant-loop-i
-invariant-loop-i l = Unit
-
 abbrev pub decreases-loop-i : goal.decreases-loop-i
-decreases-loop-i l = l.points - i
+decreases-loop-i l = l.points - l.i
