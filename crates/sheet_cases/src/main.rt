@@ -7,9 +7,10 @@ ghost use Rattle.std.specs.Prelude.{◌≡◌, ◌+◌, ◌≤◌, ◌<◌, leng
 
 use sheet::Written;
 
-const STDIN_FILENO: i32 = 0;
+// The descriptors of the standard input and output.
+const STDIN: i32 = 0;
 
-const STDOUT_FILENO: i32 = 1;
+const STDOUT: i32 = 1;
 
 // A sheet, a number list and each lent buffer have at most so many places.
 const MOST: usize = 33000;
@@ -28,7 +29,7 @@ fn main() {
 // One request; false where the input has ended, or is no request.
 fn request() -> bool {
     let mut head = [0u8; 12];
-    if io::read_full(STDIN_FILENO, &mut head) < 12 {
+    if io::read_full(STDIN, &mut head) < 12 {
         return false;
     }
     let code = word_at(&head, 0);
@@ -68,7 +69,7 @@ fn write_request(room: usize, size: usize)
 fn run_read(bytes: &mut [u8], size: usize, numbers: &mut [i32], room: usize)
     requires { (size ≤ length bytes.old) × (room ≤ length numbers.old) }
 {
-    io::read_full(STDIN_FILENO, &mut bytes[..size]);
+    io::read_full(STDIN, &mut bytes[..size]);
     print_answer(reading::read(&bytes[..size], &mut numbers[..room]));
     print_numbers(&numbers[..room]);
 }
@@ -99,7 +100,7 @@ fn take_numbers(numbers: &mut [i32]) {
     let mut i: usize = 0;
     while i < numbers.len() {
         let mut bytes = [0u8; 4];
-        io::read_full(STDIN_FILENO, &mut bytes);
+        io::read_full(STDIN, &mut bytes);
         let n = words::signed(word_at(&bytes, 0));
         numbers[i] = n;
         i += 1;
@@ -115,7 +116,7 @@ fn word_at(bytes: &[u8], at: usize) -> u32
 // ---- the lines
 
 fn print_answer(answer: Written) {
-    io::print_decimal(STDOUT_FILENO, answer.refusal as u64);
+    io::print_decimal(STDOUT, answer.refusal as u64);
     print_count(answer.count as u64);
 }
 
@@ -159,19 +160,19 @@ fn end_line(size: usize, sum: u64) {
     if WHOLE < size {
         print_count(sum);
     }
-    io::write_all(STDOUT_FILENO, b"\n");
+    io::write_all(STDOUT, b"\n");
 }
 
 fn print_signed(z: i32) {
     if z < 0 {
-        io::write_all(STDOUT_FILENO, b" -");
-        io::print_decimal(STDOUT_FILENO, words::magnitude(z as i64));
+        io::write_all(STDOUT, b" -");
+        io::print_decimal(STDOUT, words::magnitude(z as i64));
     } else {
         print_count(words::magnitude(z as i64));
     }
 }
 
 fn print_count(n: u64) {
-    io::write_all(STDOUT_FILENO, b" ");
-    io::print_decimal(STDOUT_FILENO, n);
+    io::write_all(STDOUT, b" ");
+    io::print_decimal(STDOUT, n);
 }
