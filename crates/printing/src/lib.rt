@@ -75,8 +75,8 @@ fn list_buffer() -> [i32; SEGMENT_NUMBERS]
 
 // Prints an accepted number list, a piece at a time.
 fn print_paths(numbers: &[i32], list: &mut [i32], text: &mut [u8]) -> Output
-    requires numbers_value { (list_refusal numbers.now ≡ 0) × (length numbers.now ≤ most_numbers) }
-    requires list_len { (length list.old ≡ segment_numbers) × (length text.old ≡ text_size) }
+    requires accepted { (list_refusal numbers.now ≡ 0) × (length numbers.now ≤ most_numbers) }
+    requires room { (length list.old ≡ segment_numbers) × (length text.old ≡ text_size) }
     ensures { (result.refusal ≡ 0) × (result.count ≡ length (sheet_text (sheet_of numbers.now))) }
 {
     let paths = number_at(numbers, 0);

@@ -41,28 +41,36 @@ pub slice_bounds-hand_over-end : goal.slice_bounds-hand_over-end
 slice_bounds-hand_over-end c =
     put_inside _ _ (named paths_word c.number_at-paths.result ++ end) (c.put_line-count.ensures.value, c.put_line-count.ensures.text_after)
 
+pub slice_bounds-hand_over-end-2 : goal.slice_bounds-hand_over-end-2
+slice_bounds-hand_over-end-2 c =
+    sym (length-take-le _ _ (put_inside _ _ (named paths_word c.number_at-paths.result ++ end) (c.put_line-count.ensures.value, c.put_line-count.ensures.text_after)))
+
 pub loop-place-init : goal.loop-place-init
 loop-place-init c =
     let l = c.args.numbers.now in
-    let accepted = c.requires.0.0 in
+    let accepted = c.requires.accepted.0 in
     let size = ap length c.put_line-count.ensures.text_after in (
       starts_inside l accepted,
-      c.requires.1.0,
-      size ∙ length-sets c.args.text.now 0 (named paths_word c.number_at-paths.result ++ end) ∙ c.requires.1.1,
-      line_counted l accepted _ _ c.args.text.now c.requires.1.1 c.number_at-paths.ensures c.put_line-count.ensures.value,
+      c.requires.room.0,
+      size ∙ length-sets c.args.text.now 0 (named paths_word c.number_at-paths.result ++ end) ∙ c.requires.room.1,
+      line_counted l accepted _ _ c.args.text.now c.requires.room.1 c.number_at-paths.ensures c.put_line-count.ensures.value,
     )
 
 pub piece_at-piece-requires : goal.piece_at-piece-requires
 piece_at-piece-requires c =
-    (omega (arith, c.loop-place-test.true, c.number_at-paths.type_inv), c.loop-place.invariant.0, c.requires.0.1)
+    (omega (arith, c.loop-place-test.true, c.number_at-paths.type_inv), c.loop-place.invariant.0, c.requires.accepted.1)
 
 pub slice_bounds-hand_over-end-in-loop-place : goal.slice_bounds-hand_over-end-in-loop-place
 slice_bounds-hand_over-end-in-loop-place c =
     put_inside _ _ (piece_text _ _ _) (c.piece_at-piece.ensures.count_value, c.piece_at-piece.ensures.text_after)
 
+pub slice_bounds-hand_over-end-in-loop-place-2 : goal.slice_bounds-hand_over-end-in-loop-place-2
+slice_bounds-hand_over-end-in-loop-place-2 c =
+    sym (length-take-le _ _ (put_inside _ _ (piece_text _ _ _) (c.piece_at-piece.ensures.count_value, c.piece_at-piece.ensures.text_after)))
+
 pub overflow_add-count : goal.overflow_add-count
 overflow_add-count c =
-    omega (arith, (counted (goal.at.overflow_add-count c).After-piece_at-piece).1, list_small c.args.numbers.now c.requires.0.0)
+    omega (arith, (counted (goal.at.overflow_add-count c).After-piece_at-piece).1, list_small c.args.numbers.now c.requires.accepted.0)
 
 pub loop-place-smaller : goal.loop-place-smaller
 loop-place-smaller c =
@@ -83,10 +91,10 @@ loop-place-preserved c =
     )
 
 pub shape_of-list : goal.shape_of-list
-shape_of-list c = c.loop-place.invariant.1 ∙ sym c.requires.1.0
+shape_of-list c = c.loop-place.invariant.1 ∙ sym c.requires.room.0
 
 pub shape_of-text : goal.shape_of-text
-shape_of-text c = c.loop-place.invariant.2 ∙ sym c.requires.1.1
+shape_of-text c = c.loop-place.invariant.2 ∙ sym c.requires.room.1
 
 pub returns : goal.returns
 returns c = (refl, coming_end c.loop-place.invariant.3 c.loop-place-test.false)

@@ -47,7 +47,7 @@ inside c = omega (arith, c.loop-i-test.true, c.requires.0)
 -- a list that has the entry answers it
 there : (c : In_default) → ⊥
 there c =
-    never_outside c.args.list.now c.loop-i.i (omega (arith, c.loop-i-test.true, c.requires.0)) c.entry_at.ensures ?
+    never_outside c.args.list.now c.loop-i.i (omega (arith, c.loop-i-test.true, c.requires.0)) c.entry_at.ensures c.in_default.is
 
 pub loop-i-init : goal.loop-i-init
 loop-i-init c = gathered_none _ _ _ c.requires.1
@@ -64,7 +64,7 @@ loop-i-smaller c = omega (arith, c.loop-i-test.true)
 pub loop-i-preserved : goal.loop-i-preserved
 loop-i-preserved c =
     let a = c.args in
-    let e = here_is a.list.now c.loop-i.i (inside (goal.at.loop-i-preserved c).In-loop-i) c.entry_at.ensures ? in
+    let e = here_is a.list.now c.loop-i.i (inside (goal.at.loop-i-preserved c).In-loop-i) c.entry_at.ensures c.in-Here.is in
     one_more a.list.now a.k c.loop-i.invariant c.loop-i-test.true e (c.put_entry-to.ensures.value, c.put_entry-to.ensures.text_after)
 
 pub shape_of-text-after-loop-i : goal.shape_of-text-after-loop-i

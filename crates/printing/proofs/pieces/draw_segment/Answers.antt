@@ -12,5 +12,5 @@ returns c =
     let a = c.args in
     let found = path_by_numbers a.numbers.now a.place.at c.points_start-from.ensures c.points_end-to.ensures in
     let same = found c.shape_at-shape.ensures c.limits_of-limits.ensures in
-    let both = drawn_same a.list-1.now (ap (λ (p : Path). alone p a.place.segment) same) c.draw_alone.ensures.value c.draw_alone.ensures.list_after in
+    let both = drawn_same a.list.now (ap (λ (p : Path). alone p a.place.segment) same) c.draw_alone.ensures.value c.draw_alone.ensures.list_after in
     record { value = both.0; list_after = both.1 }
