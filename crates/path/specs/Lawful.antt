@@ -5,7 +5,7 @@ use Rattle.operations.specs.Lawful.{apart}
 use Rattle.path.specs.Path.{Path, point_at}
 
 pub record Lawful (p : Path) : Type 0 where
-  -- 1 to 64 segments, D-as-S + 1 points of three coordinates: D is 2 for a quadratic path and 3 for a cubic one
+  -- 1 to 64 segments, D·S + 1 points of three coordinates: D is 2 for a quadratic path and 3 for a cubic one
   pub some : 1 ≤ p.segments
   pub most : p.segments ≤ 64
   pub size : length p.points ≡ 3 * (degree p.degree * p.segments + 1)

@@ -1,4 +1,4 @@
--- A path: 1 to 64 segments of one degree D over D-as-S + 1 points, one finest level and one start level for all its segments, and the limits that choose
+-- A path: 1 to 64 segments of one degree D over D·S + 1 points, one finest level and one start level for all its segments, and the limits that choose
 -- its steps.
 use Rattle.std.specs.Prelude.{List, ℕ, ◌+◌, ◌*◌, ℤ, pos, length, get_or}
 use Rattle.rules.specs.declared.Degree.{Degree}
