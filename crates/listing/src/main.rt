@@ -4,7 +4,6 @@
 
 const STDERR_FILENO: i32 = 2;
 
-
 fn main() {
     let mut sheet = printing::sheet_buffer();
     let output = printing::print_input(&mut sheet);
