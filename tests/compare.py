@@ -6,7 +6,7 @@
 Requests made by chance go to the probe, a batch to each run, and every line
 that it answers has to be the model's. Sheets go to the listing, one to each
 run, and every byte that it prints has to be the model's. Programs that are
-not in target/bin are built first. FOLDER is the repository they belong to.
+missing or out of date are built first. FOLDER is the repository they belong to.
 
 It ends with "N passed, N failed", and with status 0 only if none failed.
 """

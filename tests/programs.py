@@ -39,7 +39,7 @@ def first_folder(*folders):
 
 
 def program_command(name, root=ROOT):
-    """The words that run target/bin/NAME of the repository at root."""
+    """The words that run crates/NAME/out/NAME of the repository at root."""
     kit = kit_folder()
     tools = first_folder(kit / "on" / platform.machine() / "toolchain",
                          kit / "toolchain")
@@ -52,7 +52,7 @@ def program_command(name, root=ROOT):
 
 
 def program_file(name, root):
-    return Path(root) / "target" / "bin" / name
+    return Path(root) / "crates" / name / "out" / name
 
 
 def is_fresh(program, root):
@@ -61,18 +61,26 @@ def is_fresh(program, root):
         return False
     built = program.stat().st_mtime
     sources = [Path(root) / "crates.txt", *Path(root, "crates").rglob("*")]
-    return all(source.stat().st_mtime <= built for source in sources)
+    return all(source.stat().st_mtime <= built for source in sources
+               if "out" not in source.relative_to(root).parts)
 
 
 def build_stale(names, root=ROOT):
-    """Has rt prove and link the programs that are missing or out of date."""
-    stale = [name for name in names
-             if not is_fresh(program_file(name, root), root)]
-    if stale:
-        print("rt check", *stale, flush=True)
-        built = subprocess.run(["rt", "check", *stale], cwd=root, check=False)
+    """Has rt prove and link the programs that are missing or out of date.
+
+    rt builds a program in order to run it: here on an empty input.
+    """
+    for name in names:
+        program = program_file(name, root)
+        if is_fresh(program, root):
+            continue
+        print("rt run", name, flush=True)
+        built = subprocess.run(["rt", "run"], cwd=Path(root, "crates", name),
+                               stdin=subprocess.DEVNULL,
+                               stdout=subprocess.DEVNULL, check=False)
         if built.returncode != 0:
-            sys.exit("rt check failed")
+            sys.exit(f"rt run failed in crates/{name}")
+        program.touch()
 
 
 def send(running, piece):
