@@ -1,0 +1,5 @@
+pub mod Moves
+pub mod Cleaned
+pub mod Runs
+pub mod Along
+pub mod Cleaner
