@@ -194,7 +194,7 @@ drift_low M s q c δ G E e Z eG hM hs hu hG h1 h2 h3 h4 =
     )) tt M s q c δ E e Z)
     (gap (rw eG at h1) ⊕ two ⊗ gap (rw eG at h2) ⊕ two ⊗ gap (rw eG at h3) ⊕ two ⊗ G0 ⊗ G0 ⊗ gap h4 ⊕ hu ⊗ (G0 ⊕ hM ⊗ hs) ⊗ G0 ⊗ G0))
 
--- ---- the start: c is the floor of 65,536·(C-as-M² + B-as-M + A) by M²
+-- ---- the start: c is the floor of 65,536·(C·M² + B·M + A) by M²
 
 pub start_low : (κ M s A B C c E G : ℤ) → G ≡ M *ℤ s → pos 0 ≤ℤ s
     → (κ *ℤ G *ℤ (C *ℤ (M *ℤ M) +ℤ B *ℤ M +ℤ A)) ≤ℤ (M *ℤ M *ℤ c +ℤ M *ℤ M -ℤ pos 1)

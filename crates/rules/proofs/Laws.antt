@@ -114,7 +114,7 @@ pub degree_most : (D : Degree) → degree D ≤ 3
 degree_most Quadratic = omega arith
 degree_most Cubic = omega arith
 
--- 1 to 64 segments, and 3(D-as-S + 1) numbers
+-- 1 to 64 segments, and 3(D·S + 1) numbers
 pub record Sized (D : Degree) (S numbers : ℕ) : Type 0 where
   pub some : 1 ≤ S
   pub most : S ≤ 64

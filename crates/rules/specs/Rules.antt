@@ -57,7 +57,7 @@ standard_lower = 22937
 abbrev pub standard_limits : Limits
 standard_limits = record { upper = standard_upper; lower = standard_lower }
 
--- 14: a path has 1 to 64 segments, and D-as-S + 1 points of three coordinates: x, y and the width
+-- 14: a path has 1 to 64 segments, and D·S + 1 points of three coordinates: x, y and the width
 abbrev pub coordinates : ℕ
 coordinates = 3
 
