@@ -4,7 +4,7 @@ use mathlib.Core.Bool.{Bool, true, false, ◌&&◌, false≢true, true≢false}
 use mathlib.Core.List.{List, [], ◌∷◌}
 use Prim.Native.Nat.{ℕ, zero, suc, ◌<◌, zero-le}
 use native.Mathlib.Nat.{not-suc-le-zero, zero-add, zero-lt-suc}
-use lib.Dec.{T, leb, eqb, eqb→eq, leb-suc-suc}
+use lib.Dec.{T, leb, eqb→eq, leb-suc-suc}
 use lib.IntN.{ℤ, pos, negsuc, nat_abs, neg_ℤ, ◌-ℤ◌, +ℤ_idl}
 use lib.Signed.{le_z, lt_z, non_neg}
 use borrow.Author.Tests.{ltb-true, le-leb, lt-leb, eq-eqb, ne_eqb}

@@ -1,14 +1,12 @@
 -- What is left of the numbers passes the test exactly where all of them do.
 use mathlib.Core.Path.{◌≡◌, refl, sym, ap₂, ◌∙◌}
-use Prim.Native.Nat.{◌+◌, ◌-◌, ◌<◌}
+use Prim.Native.Nat.{◌<◌}
 use native.Mathlib.Omega.{arith}
 use lib.IntN.{pos}
-use lib.ListN.{length, get_or, drop}
+use lib.ListN.{length, get_or}
 use mir.Syntax.{w32}
 use mir.Facts.{to_z-of_z}
-use borrow.Author.Rules.{rules}
-use borrow.Author.Tests.{not-true, not-false}
-use Rattle.rules.specs.Rules.{are_neighbours, coordinates, are_beside, are_chained}
+use Rattle.rules.specs.Rules.{are_neighbours, are_chained}
 use Rattle.rules.proofs.Every.{beside_stop, beside_on, beside_end}
 use Rattle.rules.proofs.chained.Goals as goal
 use Rattle.rules.proofs.chained.Goals.{After-neighbours, In-loop-j}

@@ -1,7 +1,5 @@
 -- Each return rewrites `head_refusal` with the tests that led there.
 use mathlib.Core.Path.{sym, ◌∙◌}
-use borrow.Author.Rules.{rules}
-use borrow.Author.Tests.{not-true, not-false}
 use Rattle.rules.specs.Rules.{head_refusal}
 use Rattle.rules.proofs.head_refusal.Goals as goal
 

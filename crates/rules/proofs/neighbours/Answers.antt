@@ -7,8 +7,7 @@ use lib.Signed.{le_z}
 use mir.Syntax.{w64}
 use mir.Val.{to_z}
 use mir.Facts.{to_z_pos}
-use borrow.Author.Rules.{rules}
-use Rattle.numbers.proofs.Machine.{Num, field, literal, local, minus, fits, signed}
+use Rattle.numbers.proofs.Machine.{Num, field, literal, local, minus}
 use Rattle.numbers.proofs.Size.{size_of, size_by}
 use Rattle.numbers.proofs.Tests.{within}
 use Rattle.rules.specs.Rules.{are_neighbours}

@@ -1,13 +1,10 @@
 -- What is left of the numbers passes the test exactly where all of them do.
-use mathlib.Core.Path.{◌≡◌, refl, sym, ap, ◌∙◌}
-use Prim.Native.Nat.{◌-◌}
+use mathlib.Core.Path.{◌≡◌, sym, ap, ◌∙◌}
 use lib.IntN.{pos}
-use lib.ListN.{length, get_or, drop}
+use lib.ListN.{get_or}
 use mir.Syntax.{w32}
 use mir.Facts.{to_z-of_z}
-use borrow.Author.Rules.{rules}
-use borrow.Author.Tests.{not-true, not-false}
-use Rattle.rules.specs.Rules.{is_coordinate, are_points}
+use Rattle.rules.specs.Rules.{is_coordinate}
 use Rattle.rules.proofs.Every.{points_stop, points_on, points_end}
 use native.Mathlib.Omega.{arith}
 use Rattle.rules.proofs.points.Goals as goal

@@ -1,13 +1,7 @@
-use mathlib.Core.Path.{◌≡◌, refl, sym, ap, ◌∙◌}
+use mathlib.Core.Path.{◌≡◌}
 use Prim.Native.Nat.{◌-◌}
-use lib.IntN.{pos}
-use lib.ListN.{length, get_or, drop}
-use mir.Syntax.{w32}
-use mir.Facts.{to_z-of_z}
-use borrow.Author.Rules.{rules}
-use borrow.Author.Tests.{not-true, not-false}
-use Rattle.rules.specs.Rules.{is_coordinate, are_points}
-use Rattle.rules.proofs.Every.{points_stop, points_on, points_end}
+use lib.ListN.{length, drop}
+use Rattle.rules.specs.Rules.{are_points}
 use Rattle.rules.proofs.points.Given as goal
 
 abbrev pub invariant-loop-i : goal.invariant-loop-i

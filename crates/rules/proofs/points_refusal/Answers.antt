@@ -1,7 +1,5 @@
 -- Each return rewrites `points_refusal` with the tests that led there.
 use mathlib.Core.Path.{sym, ◌∙◌}
-use borrow.Author.Rules.{rules}
-use borrow.Author.Tests.{not-true, not-false}
 use Rattle.rules.specs.Rules.{points_refusal}
 use Rattle.rules.proofs.points_refusal.Goals as goal
 

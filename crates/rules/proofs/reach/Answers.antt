@@ -3,10 +3,8 @@ use mathlib.Core.Path.{sym, ap, ◌∙◌}
 use Prim.Native.Nat.{ℕ, ◌-◌, ◌/◌, ◌^◌}
 use native.Mathlib.Omega.{arith}
 use lib.Pow.{pow_mono}
-use borrow.Author.Rules.{rules}
 use Rattle.numbers.proofs.Machine.{power}
 use Rattle.rules.specs.Rules as rules
-use Rattle.rules.proofs.Laws.{degree_some}
 use Rattle.rules.proofs.Reaches.{reach_coarsest, reach_fine, reach_finer}
 use Rattle.rules.proofs.reach.Goals as goal
 

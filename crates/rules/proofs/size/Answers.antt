@@ -1,7 +1,5 @@
 -- Each return rewrites `is_size` with what the calls found.
 use mathlib.Core.Path.{sym, ◌∙◌}
-use borrow.Author.Rules.{rules}
-use borrow.Author.Tests.{not-true, not-false}
 use Rattle.rules.specs.Rules.{is_size}
 use Rattle.rules.proofs.size.Goals as goal
 
