@@ -4,7 +4,6 @@ use Prim.Native.Nat.{◌+◌, ◌*◌}
 use Rattle.numbers.proofs.Machine.{number_read}
 use borrow.Author.Tests.{lt-ltb, le-ltb}
 use Rattle.entries.specs.Entries.{entry_size, entry_at}
-use borrow.Author.Rules.{rules}
 use Rattle.entries.proofs.entry_at.Goals as goal
 
 pub returns-then-i-list : goal.returns-then-i-list

@@ -3,8 +3,7 @@ use mathlib.Core.Path.{sym, ap, ap₂, ◌∙◌}
 use Prim.Native.Nat.{ℕ, ◌+◌, ◌-◌}
 use lib.IntN.{ℤ, nat_abs, ◌+ℤ◌}
 use mir.Syntax.{w64}
-use borrow.Author.Rules.{rules}
-use Rattle.numbers.proofs.Machine.{Num, field, local, shift, plus, fits, signed}
+use Rattle.numbers.proofs.Machine.{Num, field, local, shift, plus, fits}
 use Rattle.coordinate.specs.Registers.{◌>>◌}
 use Rattle.coordinate.proofs.Increment.{doubled_from_b_and_c}
 use Rattle.engine.proofs.choosing.doubled_increment_of.Goals as goal

@@ -2,7 +2,6 @@
 use mathlib.Core.Path.{sym, ◌∙◌}
 use Prim.Native.Nat.{◌≤◌}
 use native.Mathlib.Nat.{le_trans}
-use borrow.Author.Rules.{rules}
 use Rattle.rules.specs.Rules.{most_finest}
 use Rattle.rules.proofs.Refusals.{answers, refuses}
 use Rattle.operations.specs.Coordinates.{every}

@@ -1,8 +1,6 @@
 -- Each return rewrites the table `begin_refusal` with the tests that led there.
 use mathlib.Core.Path.{◌≡◌, sym, ◌∙◌}
 use mathlib.Core.Bool.{true}
-use borrow.Author.Rules.{rules}
-use borrow.Author.Tests.{not-true, not-false}
 use Rattle.rules.specs.Rules.{is_finest}
 use Rattle.operations.specs.Refusals.{begin_refusal}
 use Rattle.engine.proofs.starting.begin_refusal.Goals as goal

@@ -5,7 +5,6 @@ use mathlib.Core.Path.{◌∙◌}
 use Prim.Native.Nat.{ℕ, ◌≤◌}
 use lib.IntN.{ℤ, pos, nat_abs, ◌+ℤ◌, ◌*ℤ◌}
 use mir.Syntax.{w32}
-use borrow.Author.Rules.{rules}
 use Rattle.numbers.proofs.Machine.{Num, known, literal, local, shift, plus, times, fits}
 use Rattle.numbers.proofs.Size.{Size}
 use Rattle.coordinate.specs.Curve.{Curve}

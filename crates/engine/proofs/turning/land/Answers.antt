@@ -1,7 +1,6 @@
 -- The calls of `fit` are the test of `registers_refusal`.
 use mathlib.Core.Path.{◌≡◌, sym, ◌∙◌}
 use mathlib.Core.Bool.{true, ◌&&◌}
-use borrow.Author.Rules.{rules}
 use Rattle.coordinate.specs.declared.Registers.{Registers}
 use Rattle.coordinate.specs.Registers.{are_registers}
 use Rattle.operations.specs.Coordinates.{Coordinate, in_x, in_y, in_width, pick, every}

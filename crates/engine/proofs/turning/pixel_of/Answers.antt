@@ -1,7 +1,6 @@
 -- The rounded d is at most 32,769 in size, so it fits 32 bits again.
 use lib.IntN.{pos, ◌+ℤ◌}
 use mir.Syntax.{w32, w64}
-use borrow.Author.Rules.{rules}
 use Rattle.numbers.proofs.Machine.{Num, literal, local, shift_to, plus, fits}
 use Rattle.coordinate.specs.declared.Registers.{Registers}
 use Rattle.coordinate.specs.Registers.{◌>>◌}
