@@ -1,3 +1,4 @@
+-- The loop's invariant: the text as it is, with what is left of the piece to come, is the text as it was, with all of it.
 use mathlib.Core.Path.{◌≡◌}
 use mathlib.Core.List.{List}
 use Prim.Native.Nat.{ℕ, ◌-◌, ◌≤◌}
