@@ -86,7 +86,8 @@ pub entry_of_flat : (es : List Entry) (after : List ℤ) (i : ℕ) (e : Entry) �
 entry_of_flat es after i e h =
     let inside : entry_size * i + entry_size ≤ length (flat es ++ after) = simp (length-append, length_flat) (omega arith) in
     let back : entry_of (flat es ++ after) i ≡ get_or es i e =
-    ap (entry_of (flat es ++ after)) (sym (zero-add i)) ∙ entry_in (flat es ++ after) 0 (length es) i e h ∙ ap (λ (fs : List Entry). get_or fs i e) (entries_back es after) in
+    ap (entry_of (flat es ++ after)) (sym (zero-add i)) ∙ entry_in (flat es ++ after) 0 (length es) i e h
+    ∙ ap (λ (fs : List Entry). get_or fs i e) (entries_back es after) in
     entry_there (flat es ++ after) i inside ∙ ap some back
 
 -- ---- what `found` gives of an answer determines the answer

@@ -1,14 +1,9 @@
-use mathlib.Core.Path.{◌≡◌, refl, sym, ap, ◌∙◌, subst}
-use mathlib.Core.List.{List, [], ◌∷◌}
-use Prim.Native.Nat.{ℕ, ◌+◌, ◌-◌, ◌≤◌, ◌<◌}
-use native.Mathlib.Numerals.{add-one}
-use native.Mathlib.Omega.{arith}
-use borrow.Author.Tests.{ltb-true, ltb-false}
-use lib.ListN.{length, get_or, drop, set, length-set, drop_of_length-le}
-use lib.Seq.{drop-cons}
-use Rattle.numbers.proofs.Buffers.{Ahead, here, stored_one, stored_all, sets_out}
-use Rattle.text.specs.Reached.{reached}
-use Rattle.text.proofs.Pieces.{Put}
+-- The loop's invariant: the text as it is, with what is left of the piece to come, is the text as it was, with all of it.
+use mathlib.Core.Path.{◌≡◌}
+use mathlib.Core.List.{List}
+use Prim.Native.Nat.{ℕ, ◌-◌, ◌≤◌}
+use lib.ListN.{length, drop}
+use Rattle.numbers.proofs.Buffers.{Ahead}
 use Rattle.text.proofs.put.Given as goal
 
 -- text l at place n, with `rest` to come, and text k at place m, with `all` to come

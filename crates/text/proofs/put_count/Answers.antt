@@ -1,6 +1,5 @@
 -- What `io::decimal` spells is `decimal`.
 use mathlib.Core.Path.{◌∙◌}
-use borrow.Author.Rules.{rules}
 use Rattle.text.proofs.Decimal.{decimal_digits}
 use Rattle.text.proofs.Pieces.{put_as}
 use Rattle.text.proofs.put_count.Goals as goal

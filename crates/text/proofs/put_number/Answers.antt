@@ -4,7 +4,6 @@ use mathlib.Core.Bool.{true, false, true≢false}
 use mathlib.Core.List.{[], ◌∷◌}
 use Prim.Native.Nat.{ℕ}
 use native.Mathlib.Omega.{arith}
-use borrow.Author.Rules.{rules}
 use borrow.Author.Tests.{ltb-true}
 use lib.IntN.{ℤ, pos, negsuc, nat_abs}
 use lib.Signed.{lt_z}
@@ -27,7 +26,9 @@ from_zero {y = negsuc n} read size t = absurd (true≢false t)
 pub returns-then-z-lt0 : goal.returns-then-z-lt0
 returns-then-z-lt0 c =
     let e = below_zero (to_z-of_z c.ranges.z) c.magnitude.ensures c.if-z-lt0.true in
-    let both = put_as _ _ e (put_both _ _ (45 ∷ []) _ (c.put-signed.ensures.value, c.put-signed.ensures.text_after) (c.put_count.ensures.value, c.put_count.ensures.text_after)) in
+    let sign = c.put-signed.ensures in
+    let digits = c.put_count.ensures in
+    let both = put_as _ _ e (put_both _ _ (45 ∷ []) _ (sign.value, sign.text_after) (digits.value, digits.text_after)) in
     record { value = both.0; text_after = both.1 }
 
 pub returns : goal.returns

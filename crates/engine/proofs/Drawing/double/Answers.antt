@@ -1,8 +1,7 @@
 -- A refusal hands the drawing back; otherwise the coordinates are doubled and land.
 use mathlib.Core.Path.{◌≡◌, refl, sym, ◌∙◌}
-use Prim.Native.Nat.{◌-◌, ◌≤◌}
+use Prim.Native.Nat.{◌≤◌}
 use Rattle.rules.specs.Rules.{most_finest}
-use borrow.Author.Rules.{rules}
 use borrow.Author.Tests.{ltb-true}
 use Rattle.rules.proofs.Refusals.{rule_kept}
 use Rattle.coordinate.specs.Registers.{double}

@@ -3,7 +3,6 @@ use mathlib.Core.Path.{◌≡◌, refl, sym, ◌∙◌}
 use Prim.Native.Nat.{◌≤◌}
 use native.Mathlib.Omega.{arith}
 use Rattle.rules.specs.Rules.{most_finest}
-use borrow.Author.Rules.{rules}
 use Rattle.coordinate.specs.Registers.{halve}
 use Rattle.operations.specs.Refusals.{call_refusal}
 use Rattle.operations.proofs.Gates.{call_low}

@@ -2,7 +2,7 @@
 use mathlib.Core.Path.{◌∙◌}
 use mir.Syntax.{w32}
 use mir.Facts.{to_z-of_z}
-use borrow.Author.Rules.{rules, sfits_of}
+use borrow.Author.Rules.{sfits_of}
 use Rattle.engine.specs.Shown.{point}
 use Rattle.engine.proofs.Drawing.shown.Goals as goal
 

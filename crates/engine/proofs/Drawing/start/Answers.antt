@@ -1,6 +1,5 @@
 -- The three coordinates are checked by the reach of the degree at F, and what begins is the start of their control points.
 use Prim.Native.Nat.{◌≤◌}
-use borrow.Author.Rules.{rules}
 use Rattle.rules.specs.declared.Degree.TheVariants.{Cubic}
 use Rattle.rules.specs.Rules.{most_reach}
 use Rattle.rules.proofs.Reaches.{reach_most}

@@ -5,10 +5,9 @@ use native.Mathlib.Omega.{arith}
 use lib.Pow.{pow_mono}
 use Rattle.rules.specs.Refusals.{first_of}
 use Rattle.rules.specs.Rules.{most_finest}
-use borrow.Author.Rules.{rules}
 use Rattle.coordinate.specs.Registers.{step}
 use Rattle.operations.specs.Lawful.{Open}
-use Rattle.operations.specs.Refusals.{gate, call_refusal}
+use Rattle.operations.specs.Refusals.{call_refusal}
 use Rattle.operations.proofs.Gates.{call_opens, call_low}
 use Rattle.operations.proofs.Stays.{step_within}
 use Rattle.engine.proofs.Answers.{call_refused, call_lands}

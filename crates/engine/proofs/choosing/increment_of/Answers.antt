@@ -2,8 +2,7 @@
 use mathlib.Core.Path.{sym, ap, ◌∙◌}
 use lib.IntN.{ℤ, nat_abs}
 use mir.Syntax.{w32, w64}
-use borrow.Author.Rules.{rules}
-use Rattle.numbers.proofs.Machine.{Num, field, kept, local, shift, shift_fits, fits}
+use Rattle.numbers.proofs.Machine.{Num, field, kept, local, shift, shift_fits}
 use Rattle.coordinate.specs.Registers.{◌>>◌}
 use Rattle.coordinate.specs.Increment.{increment}
 use Rattle.engine.proofs.choosing.increment_of.Goals as goal

@@ -1,5 +1,4 @@
 -- The coefficients are reckoned where both rules are kept.
-use borrow.Author.Rules.{rules}
 use Rattle.rules.specs.declared.Degree.TheVariants.{Cubic}
 use Rattle.engine.specs.Checked.{no_curve}
 use Rattle.engine.proofs.Begun.{kept_checked, broken_checked, kept_points}

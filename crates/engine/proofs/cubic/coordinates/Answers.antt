@@ -2,7 +2,6 @@
 use mathlib.Core.Path.{ap, ◌∙◌}
 use mathlib.Core.Bool.{◌&&◌}
 use mir.Facts.{to_z-of_z}
-use borrow.Author.Rules.{rules}
 use Rattle.rules.specs.Rules.{is_coordinate}
 use Rattle.coordinate.specs.Points.{are_coordinates}
 use Rattle.engine.proofs.Fitting.{told}

@@ -1,6 +1,4 @@
 -- Every sum and product is small since neighbours are at most 682 apart; they are the coefficients by `by-differences`.
--- ---- the numbers of the code
--- ---- what the code asks
 use mathlib.Core.Path.{◌∙◌}
 use lib.IntN.{pos, ◌+ℤ◌, ◌-ℤ◌, ◌*ℤ◌}
 use mir.Syntax.{w32}
@@ -16,38 +14,40 @@ use Rattle.engine.proofs.cubic.curve.Goals.{Start}
 abbrev p : Start → Control Cubic
 p c = c.args.p
 
-at-points : (c : Start) → Extent Cubic 16384 (p c)
-at-points c = extent Cubic (p c) c.requires.0
+at_points : (c : Start) → Extent Cubic 16384 (p c)
+at_points c = extent Cubic (p c) c.requires.0
 
 of_steps : (c : Start) → Reach Cubic (most_reach Cubic) (p c)
 of_steps c = reaches Cubic (most_reach Cubic) (p c) c.requires.1
 
-abbrev first-apart : (c : Start) → Num 32768 ((p c).p1 -ℤ (p c).p0)
-first-apart c = minus (known w32 tt (at-points c).1) (known w32 tt (at-points c).0)
+-- ---- the numbers of the code
+
+abbrev first_apart : (c : Start) → Num 32768 ((p c).p1 -ℤ (p c).p0)
+first_apart c = minus (known w32 tt (at_points c).1) (known w32 tt (at_points c).0)
 
 abbrev first : (c : Start) → Num 682 ((p c).p1 -ℤ (p c).p0)
-first c = local w32 tt (tighter (of_steps c).0 (first-apart c))
+first c = local w32 tt (tighter (of_steps c).0 (first_apart c))
 
-abbrev second-apart : (c : Start) → Num 32768 ((p c).p2 -ℤ (p c).p1)
-second-apart c = minus (known w32 tt (at-points c).2) (known w32 tt (at-points c).1)
+abbrev second_apart : (c : Start) → Num 32768 ((p c).p2 -ℤ (p c).p1)
+second_apart c = minus (known w32 tt (at_points c).2) (known w32 tt (at_points c).1)
 
 abbrev second : (c : Start) → Num 682 ((p c).p2 -ℤ (p c).p1)
-second c = local w32 tt (tighter (of_steps c).1 (second-apart c))
+second c = local w32 tt (tighter (of_steps c).1 (second_apart c))
 
-abbrev third-apart : (c : Start) → Num 32768 ((p c).p3 -ℤ (p c).p2)
-third-apart c = minus (known w32 tt (at-points c).3) (known w32 tt (at-points c).2)
+abbrev third_apart : (c : Start) → Num 32768 ((p c).p3 -ℤ (p c).p2)
+third_apart c = minus (known w32 tt (at_points c).3) (known w32 tt (at_points c).2)
 
 abbrev third : (c : Start) → Num 682 ((p c).p3 -ℤ (p c).p2)
-third c = local w32 tt (tighter (of_steps c).2 (third-apart c))
+third c = local w32 tt (tighter (of_steps c).2 (third_apart c))
 
 abbrev twice : (c : Start) → Num 1364 (pos 2 *ℤ ((p c).p2 -ℤ (p c).p1))
 twice c = times (literal 2) (second c)
 
-abbrev less-twice : (c : Start) → Num 2046 (((p c).p3 -ℤ (p c).p2) -ℤ pos 2 *ℤ ((p c).p2 -ℤ (p c).p1))
-less-twice c = minus (third c) (local w32 tt (twice c))
+abbrev less_twice : (c : Start) → Num 2046 (((p c).p3 -ℤ (p c).p2) -ℤ pos 2 *ℤ ((p c).p2 -ℤ (p c).p1))
+less_twice c = minus (third c) (local w32 tt (twice c))
 
 abbrev A : (c : Start) → Num 2728 (((p c).p3 -ℤ (p c).p2) -ℤ pos 2 *ℤ ((p c).p2 -ℤ (p c).p1) +ℤ ((p c).p1 -ℤ (p c).p0))
-A c = plus (local w32 tt (less-twice c)) (first c)
+A c = plus (local w32 tt (less_twice c)) (first c)
 
 abbrev bend : (c : Start) → Num 1364 (((p c).p2 -ℤ (p c).p1) -ℤ ((p c).p1 -ℤ (p c).p0))
 bend c = minus (second c) (first c)
@@ -58,20 +58,22 @@ B c = times (literal 3) (local w32 tt (bend c))
 abbrev C : (c : Start) → Num 2046 (pos 3 *ℤ ((p c).p1 -ℤ (p c).p0))
 C c = times (literal 3) (first c)
 
+-- ---- what the code asks
+
 pub overflow_sub-first : goal.overflow_sub-first
-overflow_sub-first c = fits tt (first-apart (goal.at.overflow_sub-first c).Start)
+overflow_sub-first c = fits tt (first_apart (goal.at.overflow_sub-first c).Start)
 
 pub overflow_sub-second : goal.overflow_sub-second
-overflow_sub-second c = fits tt (second-apart (goal.at.overflow_sub-second c).Start)
+overflow_sub-second c = fits tt (second_apart (goal.at.overflow_sub-second c).Start)
 
 pub overflow_sub-third : goal.overflow_sub-third
-overflow_sub-third c = fits tt (third-apart (goal.at.overflow_sub-third c).Start)
+overflow_sub-third c = fits tt (third_apart (goal.at.overflow_sub-third c).Start)
 
 pub overflow_mul-a : goal.overflow_mul-a
 overflow_mul-a c = fits tt (twice (goal.at.overflow_mul-a c).Start)
 
 pub overflow_sub-a : goal.overflow_sub-a
-overflow_sub-a c = fits tt (less-twice (goal.at.overflow_sub-a c).Start)
+overflow_sub-a c = fits tt (less_twice (goal.at.overflow_sub-a c).Start)
 
 pub overflow_add-a : goal.overflow_add-a
 overflow_add-a c = fits tt (A (goal.at.overflow_add-a c).Start)
@@ -87,5 +89,6 @@ overflow_mul-c c = fits tt (C (goal.at.overflow_mul-c c).Start)
 
 pub returns : goal.returns
 returns c =
-    (λ i. record { A = (local w32 tt (A (goal.at.returns c).Start)).is i; B = (local w32 tt (B (goal.at.returns c).Start)).is i; C = (local w32 tt (C (goal.at.returns c).Start)).is i; D = (known w32 tt (at-points (goal.at.returns c).Start).0).is i })
-    ∙ by-differences Cubic (p (goal.at.returns c).Start)
+    let s = (goal.at.returns c).Start in
+    (λ i. record { A = (local w32 tt (A s)).is i; B = (local w32 tt (B s)).is i; C = (local w32 tt (C s)).is i; D = (known w32 tt (at_points s).0).is i })
+    ∙ by-differences Cubic (p s)

@@ -2,7 +2,6 @@
 use mathlib.Core.Path.{ap₂, ◌∙◌}
 use mathlib.Core.Bool.{◌&&◌}
 use mir.Facts.{to_z-of_z}
-use borrow.Author.Rules.{rules}
 use Rattle.rules.specs.Rules.{are_neighbours}
 use Rattle.coordinate.specs.Points.{are_near}
 use Rattle.engine.proofs.Fitting.{told}

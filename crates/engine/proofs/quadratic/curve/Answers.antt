@@ -1,6 +1,4 @@
 -- Every sum and product is small since neighbours are at most 1,023 apart; they are the coefficients by `by-differences`.
--- ---- the numbers of the code
--- ---- what the code asks
 use mathlib.Core.Path.{◌∙◌}
 use lib.IntN.{pos, ◌-ℤ◌, ◌*ℤ◌}
 use mir.Syntax.{w32}
@@ -16,23 +14,25 @@ use Rattle.engine.proofs.quadratic.curve.Goals.{Start}
 abbrev p : Start → Control Quadratic
 p c = c.args.p
 
-at-points : (c : Start) → Extent Quadratic 16384 (p c)
-at-points c = extent Quadratic (p c) c.requires.0
+at_points : (c : Start) → Extent Quadratic 16384 (p c)
+at_points c = extent Quadratic (p c) c.requires.0
 
 of_steps : (c : Start) → Reach Quadratic (most_reach Quadratic) (p c)
 of_steps c = reaches Quadratic (most_reach Quadratic) (p c) c.requires.1
 
-abbrev first-apart : (c : Start) → Num 32768 ((p c).p1 -ℤ (p c).p0)
-first-apart c = minus (known w32 tt (at-points c).1) (known w32 tt (at-points c).0)
+-- ---- the numbers of the code
+
+abbrev first_apart : (c : Start) → Num 32768 ((p c).p1 -ℤ (p c).p0)
+first_apart c = minus (known w32 tt (at_points c).1) (known w32 tt (at_points c).0)
 
 abbrev first : (c : Start) → Num 1023 ((p c).p1 -ℤ (p c).p0)
-first c = local w32 tt (tighter (of_steps c).0 (first-apart c))
+first c = local w32 tt (tighter (of_steps c).0 (first_apart c))
 
-abbrev second-apart : (c : Start) → Num 32768 ((p c).p2 -ℤ (p c).p1)
-second-apart c = minus (known w32 tt (at-points c).2) (known w32 tt (at-points c).1)
+abbrev second_apart : (c : Start) → Num 32768 ((p c).p2 -ℤ (p c).p1)
+second_apart c = minus (known w32 tt (at_points c).2) (known w32 tt (at_points c).1)
 
 abbrev second : (c : Start) → Num 1023 ((p c).p2 -ℤ (p c).p1)
-second c = local w32 tt (tighter (of_steps c).1 (second-apart c))
+second c = local w32 tt (tighter (of_steps c).1 (second_apart c))
 
 abbrev B : (c : Start) → Num 2046 (((p c).p2 -ℤ (p c).p1) -ℤ ((p c).p1 -ℤ (p c).p0))
 B c = minus (second c) (first c)
@@ -40,11 +40,13 @@ B c = minus (second c) (first c)
 abbrev C : (c : Start) → Num 2046 (pos 2 *ℤ ((p c).p1 -ℤ (p c).p0))
 C c = times (literal 2) (first c)
 
+-- ---- what the code asks
+
 pub overflow_sub-first : goal.overflow_sub-first
-overflow_sub-first c = fits tt (first-apart (goal.at.overflow_sub-first c).Start)
+overflow_sub-first c = fits tt (first_apart (goal.at.overflow_sub-first c).Start)
 
 pub overflow_sub-second : goal.overflow_sub-second
-overflow_sub-second c = fits tt (second-apart (goal.at.overflow_sub-second c).Start)
+overflow_sub-second c = fits tt (second_apart (goal.at.overflow_sub-second c).Start)
 
 pub overflow_sub-b : goal.overflow_sub-b
 overflow_sub-b c = fits tt (B (goal.at.overflow_sub-b c).Start)
@@ -54,5 +56,6 @@ overflow_mul-c c = fits tt (C (goal.at.overflow_mul-c c).Start)
 
 pub returns : goal.returns
 returns c =
-    (λ i. record { A = pos 0; B = (local w32 tt (B (goal.at.returns c).Start)).is i; C = (local w32 tt (C (goal.at.returns c).Start)).is i; D = (known w32 tt (at-points (goal.at.returns c).Start).0).is i })
-    ∙ by-differences Quadratic (p (goal.at.returns c).Start)
+    let s = (goal.at.returns c).Start in
+    (λ i. record { A = pos 0; B = (local w32 tt (B s)).is i; C = (local w32 tt (C s)).is i; D = (known w32 tt (at_points s).0).is i })
+    ∙ by-differences Quadratic (p s)

@@ -1,7 +1,5 @@
 -- The limits first, then the gate.
 use mathlib.Core.Path.{sym, ◌∙◌}
-use borrow.Author.Rules.{rules}
-use borrow.Author.Tests.{not-true, not-false}
 use Rattle.operations.specs.Refusals.{choice_refusal}
 use Rattle.engine.proofs.refusals.choice_refusal.Goals as goal
 

@@ -3,8 +3,7 @@ use mathlib.Core.Path.{◌≡◌, sym, ◌∙◌}
 use mathlib.Core.Bool.{true}
 use native.Mathlib.Omega.{arith}
 use lib.Dec.{ltb}
-use borrow.Author.Rules.{rules}
-use borrow.Author.Tests.{lt-ltb, not-true, not-false}
+use borrow.Author.Tests.{lt-ltb}
 use Rattle.rules.proofs.Refusals.{first_on, first_stop}
 use Rattle.operations.specs.Refusals.{gate, call_refusal}
 use Rattle.operations.proofs.Gates.{opens}
@@ -31,9 +30,11 @@ is_aligned-requires c = let i = (opens _ _ _ (let_through (goal.at.is_aligned-re
 pub returns-then-not-is_aligned : goal.returns-then-not-is_aligned
 unfolding call_refusal
 returns-then-not-is_aligned c =
-    sym (first_on _ _ (let_through (goal.at.returns-then-not-is_aligned c).Else-refusal-ne0) ∙ simp (above (goal.at.returns-then-not-is_aligned c).Else-level-eq0, sym c.is_aligned.ensures ∙ c.if-not-is_aligned.true))
+    let at = goal.at.returns-then-not-is_aligned c in
+    sym (first_on _ _ (let_through at.Else-refusal-ne0) ∙ simp (above at.Else-level-eq0, sym c.is_aligned.ensures ∙ c.if-not-is_aligned.true))
 
 pub returns : goal.returns
 unfolding call_refusal
 returns c =
-    sym (first_on _ _ (let_through (goal.at.returns c).Else-refusal-ne0) ∙ simp (above (goal.at.returns c).Else-level-eq0, sym c.is_aligned.ensures ∙ c.if-not-is_aligned.false))
+    let at = goal.at.returns c in
+    sym (first_on _ _ (let_through at.Else-refusal-ne0) ∙ simp (above at.Else-level-eq0, sym c.is_aligned.ensures ∙ c.if-not-is_aligned.false))

@@ -1,8 +1,7 @@
 -- Each return rewrites the table `gate` with the tests that led there.
 use mathlib.Core.Path.{◌≡◌, sym, ◌∙◌}
 use mathlib.Core.Bool.{true}
-use borrow.Author.Rules.{rules}
-use borrow.Author.Tests.{le-ltb, lt-ltb, not-true, not-false}
+use borrow.Author.Tests.{le-ltb, lt-ltb}
 use Rattle.operations.specs.Position.{is_drawing}
 use Rattle.operations.specs.Refusals.{gate}
 use Rattle.operations.proofs.Gates.{inside}

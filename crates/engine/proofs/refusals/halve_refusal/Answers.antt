@@ -1,6 +1,5 @@
 -- The gate first, then 6.
 use mathlib.Core.Path.{◌≡◌, sym, ◌∙◌}
-use borrow.Author.Rules.{rules}
 use borrow.Author.Tests.{le-ltb, lt-ltb}
 use Rattle.rules.proofs.Refusals.{first_on, first_stop}
 use Rattle.operations.specs.Refusals.{gate, call_refusal}

@@ -1,10 +1,7 @@
 -- The tests are those of `is_drawing`, and the finest level is known to be one before it is shifted by.
 use mathlib.Core.Path.{◌≡◌, sym, ◌∙◌}
 use mathlib.Core.Bool.{true}
-use Prim.Native.Nat.{◌-◌}
-use lib.Pow.{pow_pos}
-use borrow.Author.Rules.{rules}
-use borrow.Author.Tests.{lt-leb, le-leb, not-true, not-false}
+use borrow.Author.Tests.{lt-leb, le-leb}
 use Rattle.rules.specs.Rules.{is_finest}
 use Rattle.rules.proofs.Laws.{finest_holds}
 use Rattle.operations.specs.Position.{is_drawing}

@@ -1,8 +1,6 @@
 -- Each return rewrites the table `begin_refusal` with the tests that led there.
 use mathlib.Core.Path.{◌≡◌, sym, ◌∙◌}
 use mathlib.Core.Bool.{true}
-use borrow.Author.Rules.{rules}
-use borrow.Author.Tests.{not-true, not-false}
 use Rattle.rules.specs.Rules.{is_finest}
 use Rattle.operations.specs.Refusals.{begin_refusal}
 use Rattle.engine.proofs.starting.begin_refusal.Goals as goal
@@ -27,14 +25,18 @@ returns-then-not-inside c = simp (fine (goal.at.returns-then-not-inside c).Else-
 
 pub returns-then-not-near : goal.returns-then-not-near
 unfolding begin_refusal
-returns-then-not-near c = simp (fine (goal.at.returns-then-not-near c).Else-not-finest, inside (goal.at.returns-then-not-near c).Else-not-inside, c.if-not-near.true)
+returns-then-not-near c =
+    let at = goal.at.returns-then-not-near c in
+    simp (fine at.Else-not-finest, inside at.Else-not-inside, c.if-not-near.true)
 
 pub returns-then-not-level : goal.returns-then-not-level
 unfolding begin_refusal
 returns-then-not-level c =
-    simp (fine (goal.at.returns-then-not-level c).Else-not-finest, inside (goal.at.returns-then-not-level c).Else-not-inside, near (goal.at.returns-then-not-level c).Else-not-near, sym c.level.ensures ∙ c.if-not-level.true)
+    let at = goal.at.returns-then-not-level c in
+    simp (fine at.Else-not-finest, inside at.Else-not-inside, near at.Else-not-near, sym c.level.ensures ∙ c.if-not-level.true)
 
 pub returns : goal.returns
 unfolding begin_refusal
 returns c =
-    simp (fine (goal.at.returns c).Else-not-finest, inside (goal.at.returns c).Else-not-inside, near (goal.at.returns c).Else-not-near, sym c.level.ensures ∙ c.if-not-level.false)
+    let at = goal.at.returns c in
+    simp (fine at.Else-not-finest, inside at.Else-not-inside, near at.Else-not-near, sym c.level.ensures ∙ c.if-not-level.false)

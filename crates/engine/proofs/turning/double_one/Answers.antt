@@ -1,9 +1,8 @@
 -- Each new register is the one of `turn double`, and fits 64 bits.
 use Prim.Native.Nat.{◌+◌}
-use native.Mathlib.Omega.{arith}
 use lib.IntN.{pos, ◌+ℤ◌, ◌*ℤ◌}
 use mir.Syntax.{w64}
-use Rattle.numbers.proofs.Machine.{Num, literal, local, shift, plus, times, fits}
+use Rattle.numbers.proofs.Machine.{Num, literal, local, shift, plus, times}
 use Rattle.coordinate.specs.declared.Registers.{Registers}
 use Rattle.coordinate.specs.Registers.{turn, ◌>>◌}
 use Rattle.engine.proofs.Fitting.{Widened, widened, told}
@@ -25,28 +24,8 @@ b w = plus (old w).b (old w).a
 abbrev c : (w : After-widen-old) → Num 4294967296 ((r w).c +ℤ ((r w).b >> (w.args.n + 1)))
 c w = plus (old w).c (local w64 tt (shift (w.args.n + 1) (old w).b))
 
-pub widen-old-requires : goal.widen-old-requires
-widen-old-requires c = tt
-
-pub overflow_mul-result : goal.overflow_mul-result
-overflow_mul-result t = fits tt (a (goal.at.overflow_mul-result t).After-widen-old)
-
-pub overflow_add-result : goal.overflow_add-result
-overflow_add-result t = fits tt (b (goal.at.overflow_add-result t).After-widen-old)
-
-pub overflow_add-result-2 : goal.overflow_add-result-2
-overflow_add-result-2 t = record { fits = omega arith }
-
-pub overflow_cast-result : goal.overflow_cast-result
-overflow_cast-result t = record { sfits = omega arith }
-
-pub overflow_shr-result : goal.overflow_shr-result
-overflow_shr-result t = omega arith
-
-pub overflow_add-result-3 : goal.overflow_add-result-3
-overflow_add-result-3 t = fits tt (c (goal.at.overflow_add-result-3 t).After-widen-old)
-
 pub returns : goal.returns
 unfolding turn
 returns t =
-    λ i. record { a = (local w64 tt (a (goal.at.returns t).After-widen-old)).is i; b = (local w64 tt (b (goal.at.returns t).After-widen-old)).is i; c = (local w64 tt (c (goal.at.returns t).After-widen-old)).is i; d = (old (goal.at.returns t).After-widen-old).d.is i }
+    let w = (goal.at.returns t).After-widen-old in
+    λ i. record { a = (local w64 tt (a w)).is i; b = (local w64 tt (b w)).is i; c = (local w64 tt (c w)).is i; d = (old w).d.is i }

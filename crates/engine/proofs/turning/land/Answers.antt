@@ -1,7 +1,6 @@
 -- The calls of `fit` are the test of `registers_refusal`.
 use mathlib.Core.Path.{◌≡◌, sym, ◌∙◌}
 use mathlib.Core.Bool.{true, ◌&&◌}
-use borrow.Author.Rules.{rules}
 use Rattle.coordinate.specs.declared.Registers.{Registers}
 use Rattle.coordinate.specs.Registers.{are_registers}
 use Rattle.operations.specs.Coordinates.{Coordinate, in_x, in_y, in_width, pick, every}
@@ -10,7 +9,7 @@ use Rattle.operations.proofs.Every.{every_true}
 use Rattle.engine.specs.Drawing.{landed}
 use Rattle.engine.specs.Wide.{narrowed}
 use Rattle.engine.proofs.turning.land.Goals as goal
-use Rattle.engine.proofs.turning.land.Goals.{After-fit-3, Then-all_fit}
+use Rattle.engine.proofs.turning.land.Goals.{After-fit-3}
 
 abbrev new : After-fit-3 → Coordinate → Registers
 new c = let a = c.args in pick (narrowed a.x) (narrowed a.y) (narrowed a.width)
@@ -19,22 +18,14 @@ fit_all : (c : After-fit-3) → every (λ k. are_registers (new c k)) ≡ (c.fit
 unfolding every
 fit_all c = λ i. sym c.fit.ensures i && sym c.fit-2.ensures i && sym c.fit-3.ensures i
 
-fits : (c : Then-all_fit) (k : Coordinate) → are_registers (new c.before k) ≡ true
-fits c = every_true (λ k. are_registers (new c.before k)) (fit_all c.before ∙ c.if-all_fit.true)
-
-pub narrow-requires : goal.narrow-requires
-narrow-requires c = fits c in_x
-
-pub narrow-requires-then-all_fit : goal.narrow-requires-then-all_fit
-narrow-requires-then-all_fit c = fits (goal.at.narrow-requires-then-all_fit c).Then-all_fit in_y
-
-pub narrow-requires-then-all_fit-2 : goal.narrow-requires-then-all_fit-2
-narrow-requires-then-all_fit-2 c = fits (goal.at.narrow-requires-then-all_fit-2 c).Then-all_fit in_width
+fits : (c : After-fit-3) → (c.fit.result && c.fit-2.result && c.fit-3.result) ≡ true → (k : Coordinate) → are_registers (new c k) ≡ true
+fits c t = every_true (λ k. are_registers (new c k)) (fit_all c ∙ t)
 
 pub returns-then-all_fit : goal.returns-then-all_fit
 unfolding landed registers_refusal every
 returns-then-all_fit c =
-    simp (c.narrow-then-all_fit-2.ensures, c.narrow-then-all_fit.ensures, c.narrow.ensures, fits (goal.at.returns-then-all_fit c).Then-all_fit in_x, fits (goal.at.returns-then-all_fit c).Then-all_fit in_y, fits (goal.at.returns-then-all_fit c).Then-all_fit in_width)
+    let f = fits (goal.at.returns-then-all_fit c).After-fit-3 c.if-all_fit.true in
+    simp (c.narrow-then-all_fit-2.ensures, c.narrow-then-all_fit.ensures, c.narrow.ensures, f in_x, f in_y, f in_width)
 
 pub returns : goal.returns
 unfolding landed registers_refusal every

@@ -1,8 +1,7 @@
 -- The rounded d is at most 32,769 in size, so it fits 32 bits again.
 use lib.IntN.{pos, ◌+ℤ◌}
 use mir.Syntax.{w32, w64}
-use borrow.Author.Rules.{rules}
-use Rattle.numbers.proofs.Machine.{Num, literal, local, shift_to, plus, fits}
+use Rattle.numbers.proofs.Machine.{Num, literal, local, shift_to, plus}
 use Rattle.coordinate.specs.declared.Registers.{Registers}
 use Rattle.coordinate.specs.Registers.{◌>>◌}
 use Rattle.coordinate.specs.Shown.{pixel}
@@ -18,12 +17,6 @@ old c = widened c.widen-old.result (r c) (told c.well_formed.0.1.1) c.widen-old.
 
 abbrev rounded : (c : After-widen-old) → Num 32769 (((r c).d +ℤ pos 32768) >> 16)
 rounded c = local w64 tt (shift_to 16 32769 tt (local w64 tt (plus (old c).d (literal 32768))))
-
-pub overflow_add-result : goal.overflow_add-result
-overflow_add-result c = fits tt (plus (old (goal.at.overflow_add-result c).After-widen-old).d (literal 32768))
-
-pub overflow_cast-result : goal.overflow_cast-result
-overflow_cast-result c = fits tt (rounded (goal.at.overflow_cast-result c).After-widen-old)
 
 pub returns : goal.returns
 unfolding pixel
