@@ -8,12 +8,12 @@ use Rattle.drawer.proofs.draw.Goals as goal
 pub returns-then-answer-ne0 : goal.returns-then-answer-ne0
 returns-then-answer-ne0 c =
     let both = drawn_refused _ _ _ c.measure-answer.ensures c.if-answer-ne0.true in
-    record { value = both.0; list_after = both.1 }
+    record { answer = both.0; list_after = both.1 }
 
 pub returns-then-list-answer : goal.returns-then-list-answer
 returns-then-list-answer c =
     let d = drawn_nine _ _ _ c.measure-answer.ensures c.if-answer-ne0.false c.if-list-answer.true in
-    record { value = c.refuse.ensures ∙ d.0; list_after = d.1 }
+    record { answer = c.refuse.ensures ∙ d.0; list_after = d.1 }
 
 pub run-requires : goal.run-requires
 run-requires c =
@@ -22,4 +22,4 @@ run-requires c =
 pub returns : goal.returns
 returns c =
     let d = drawn_filled _ _ _ c.measure-answer.ensures c.if-answer-ne0.false c.if-list-answer.false in
-    record { value = d.0; list_after = c.run.ensures.list_after ∙ d.1 }
+    record { answer = d.0; list_after = c.run.ensures.list_after ∙ d.1 }

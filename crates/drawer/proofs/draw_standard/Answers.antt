@@ -18,6 +18,6 @@ returns c =
     let a = c.args in
     let limits = c.standard.ensures in
     record {
-      value = c.draw.ensures.value ∙ ap (λ (l : Limits). drawn (path a.points.now a.shape l) (length a.list.now)) limits;
+      answer = c.draw.ensures.answer ∙ ap (λ (l : Limits). drawn (path a.points.now a.shape l) (length a.list.now)) limits;
       list_after = c.draw.ensures.list_after ∙ ap (λ (l : Limits). written (path a.points.now a.shape l) a.list.now) limits;
     }

@@ -35,7 +35,7 @@ returns-then-answer-ne0 c =
     let output =
     refused_output c.args.sheet.now (bytes r) _ (room r) c.read-answer.ensures.answer c.if-answer-ne0.true
     text.result (sym text.ensures) c.put_line-count.ensures.value in
-    record { refusal_value = output.0; count_value = output.1 }
+    record { refusal = output.0; count = output.1 }
 
 pub slice_bounds-numbers-end : goal.slice_bounds-numbers-end
 slice_bounds-numbers-end c =
@@ -63,4 +63,4 @@ returns c =
     let output =
     accepted_output c.args.sheet.now (bytes r) _ (room r) c.read-answer.ensures.answer c.if-answer-ne0.false c.read-answer.ensures.list_after
     c.print_paths.ensures in
-    record { refusal_value = output.0; count_value = output.1 }
+    record { refusal = output.0; count = output.1 }

@@ -35,7 +35,7 @@ counted : (c : After-piece_at-piece) → let l = c.args.numbers.now in
     Coming l c.number_at-paths.result total c.piece_at-piece.result.next count × (count ≤ total)
 counted c =
     piece_counted c.loop-place.invariant.3 c.loop-place-test.true c.loop-place.list c.loop-place.text c.loop-place.invariant.1 c.loop-place.invariant.2
-    c.piece_at-piece.ensures.count_value c.piece_at-piece.ensures.next_value
+    c.piece_at-piece.ensures.count c.piece_at-piece.ensures.next
 
 pub slice_bounds-hand_over-end : goal.slice_bounds-hand_over-end
 slice_bounds-hand_over-end c =
@@ -62,11 +62,11 @@ piece_at-piece-requires c =
 
 pub slice_bounds-hand_over-end-in-loop-place : goal.slice_bounds-hand_over-end-in-loop-place
 slice_bounds-hand_over-end-in-loop-place c =
-    put_inside _ _ (piece_text _ _ _) (c.piece_at-piece.ensures.count_value, c.piece_at-piece.ensures.text_after)
+    put_inside _ _ (piece_text _ _ _) (c.piece_at-piece.ensures.count, c.piece_at-piece.ensures.text_after)
 
 pub slice_bounds-hand_over-end-in-loop-place-2 : goal.slice_bounds-hand_over-end-in-loop-place-2
 slice_bounds-hand_over-end-in-loop-place-2 c =
-    sym (length-take-le _ _ (put_inside _ _ (piece_text _ _ _) (c.piece_at-piece.ensures.count_value, c.piece_at-piece.ensures.text_after)))
+    sym (length-take-le _ _ (put_inside _ _ (piece_text _ _ _) (c.piece_at-piece.ensures.count, c.piece_at-piece.ensures.text_after)))
 
 pub overflow_add-count : goal.overflow_add-count
 overflow_add-count c =
@@ -78,13 +78,13 @@ loop-place-smaller c =
     let q = c.loop-place.place in
     let small : q.segment < 4294967296 = omega arith in
     let falls = next_falls c.args.numbers.now N q c.loop-place-test.true small in
-    subst (λ (next : Place). left N next < left N q) (sym c.piece_at-piece.ensures.next_value) falls
+    subst (λ (next : Place). left N next < left N q) (sym c.piece_at-piece.ensures.next) falls
 
 pub loop-place-preserved : goal.loop-place-preserved
 loop-place-preserved c =
     let l = c.args.numbers.now in
     let inside = next_inside l c.loop-place.place c.loop-place.invariant.0 in (
-      subst (λ (next : Place). next.at ≤ length l) (sym c.piece_at-piece.ensures.next_value) inside,
+      subst (λ (next : Place). next.at ≤ length l) (sym c.piece_at-piece.ensures.next) inside,
       search rules,
       search rules,
       (counted (goal.at.loop-place-preserved c).After-piece_at-piece).0,

@@ -29,5 +29,5 @@ returns c =
     let from = c.least-from.ensures ∙ ap (λ (D : ℕ). min (coordinates * (D * a.k)) points) c.number-each.ensures in
     let end = c.least-to.ensures ∙ ap (λ (D : ℕ). min (c.least-from.result + coordinates * (D + 1)) points) c.number-each.ensures in
     let same = segment_part a.points.now a.shape a.limits a.k _ _ from end in
-    let both = drawn_same a.list.now same c.draw.ensures.value c.draw.ensures.list_after in
+    let both = drawn_same a.list.now same c.draw.ensures.answer c.draw.ensures.list_after in
     record { value = both.0; list_after = both.1 }

@@ -44,8 +44,8 @@ returns c =
     piece_put a.numbers.now a.place a.list.now c.draw_segment-drawn.ensures.value c.draw_segment-drawn.ensures.list_after
     a.text.now c.first_entry.ensures (c.put_heading-at.ensures.value, c.put_heading-at.ensures.text_after) (c.put_entries-count.ensures.value, c.put_entries-count.ensures.text_after) in
     record {
-      count_value = put.0;
-      next_value = c.next_place.ensures;
+      count = put.0;
+      next = c.next_place.ensures;
       text_after = put.1;
       list_after = c.draw_segment-drawn.ensures.list_after;
     }
