@@ -11,7 +11,7 @@ returns-then-answer-ne0 c =
 
 pub returns-then-list-answer : goal.returns-then-list-answer
 returns-then-list-answer c =
-    let both = drawn_nine _ _ _ c.measure-answer.ensures c.if-answer-ne0.false c.if-list-answer.true in
+    let both = drawn_nine _ c.args.list.now _ c.measure-answer.ensures c.if-answer-ne0.false c.if-list-answer.true in
     record { answer = c.refuse.ensures ∙ both.0; list_after = both.1 }
 
 pub run-requires : goal.run-requires
