@@ -28,7 +28,7 @@ struct Tally {
 
 // Draws a path into the front of `list`, four numbers a point. Refuses 14, 24, 1, 2, 3, 4, 9, with the list as it was.
 pub fn draw(points: &[i32], shape: Shape, limits: Limits, list: &mut [i32]) -> Drawn
-    ensures value { result ≡ drawn (path points.now shape limits) (length list.old) }
+    ensures answer { result ≡ drawn (path points.now shape limits) (length list.old) }
     ensures list_after { list.new ≡ written (path points.now shape limits) list.old }
 {
     let answer = measure(points, shape, limits);
@@ -61,7 +61,7 @@ pub fn measure(points: &[i32], shape: Shape, limits: Limits) -> Drawn
 
 // The same under the standard limits. Refuses 14, 24, 1, 2, 3, 9.
 pub fn draw_standard(points: &[i32], shape: Shape, list: &mut [i32]) -> Drawn
-    ensures value { result ≡ drawn (path points.now shape standard_limits) (length list.old) }
+    ensures answer { result ≡ drawn (path points.now shape standard_limits) (length list.old) }
     ensures list_after { list.new ≡ written (path points.now shape standard_limits) list.old }
 {
     draw(points, shape, Limits::standard(), list)

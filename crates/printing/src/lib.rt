@@ -24,8 +24,8 @@ const STDOUT_FILENO: i32 = 1;
 
 // Prints the listing of a sheet. Whether standard output took all of it, `whole`, no contract can say.
 pub fn print(sheet: &[u8]) -> Output
-    ensures refusal_value { result.refusal ≡ sheet_refusal sheet.now }
-    ensures count_value { result.count ≡ length (listing sheet.now) }
+    ensures refusal { result.refusal ≡ sheet_refusal sheet.now }
+    ensures count { result.count ≡ length (listing sheet.now) }
 {
     let mut numbers = number_buffer();
     let mut text = io::large_buffer();

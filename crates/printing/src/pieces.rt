@@ -19,8 +19,8 @@ use sheet::PATH_HEAD;
 // The piece at a place, from the front of `text` on. The segment's entries are drawn into `list`.
 pub(crate) fn piece_at(numbers: &[i32], place: Place, list: &mut [i32], text: &mut [u8]) -> Piece
     requires { (place.path < 4294967295) × (place.at ≤ length numbers.now) × (length numbers.now ≤ most_numbers) }
-    ensures count_value { result.count ≡ reached text.old 0 (piece_text numbers.now place (length list.old)) }
-    ensures next_value { result.next ≡ next_place numbers.now place }
+    ensures count { result.count ≡ reached text.old 0 (piece_text numbers.now place (length list.old)) }
+    ensures next { result.next ≡ next_place numbers.now place }
     ensures text_after { text.new ≡ sets text.old 0 (piece_text numbers.now place (length list.old)) }
     ensures list_after { list.new ≡ written (segment_at numbers.now place) list.old }
 {

@@ -1,7 +1,6 @@
 -- A move is at most 1,414 long, so that a small tally has room for one more.
 use Prim.Native.Nat.{◌+◌}
 use native.Mathlib.Omega.{arith}
-use borrow.Author.Rules.{rules}
 use Rattle.entries.proofs.Length.{move_most}
 use Rattle.drawer.specs.Tally.{added}
 use Rattle.drawer.proofs.add.Goals as goal

@@ -3,7 +3,6 @@ use Prim.Native.Nat.{zero-le}
 use mathlib.Core.Path.{sym, ap, ◌∙◌, subst}
 use native.Mathlib.Omega.{arith}
 use lib.Seq.{sets}
-use borrow.Author.Rules.{rules}
 use Rattle.engine.specs.declared.Drawing.{Drawing}
 use Rattle.engine.proofs.Accepted.{accepted}
 use Rattle.entries.specs.declared.Entry.{Entry}
@@ -16,7 +15,8 @@ use Rattle.drawer.proofs.begin.Goals as goal
 pub entry_of-start-requires : goal.entry_of-start-requires
 unfolding first
 entry_of-start-requires c =
-    let finest = (accepted c.args.shape.degree c.args.shape.finest _ _ c.requires.accepted).fine.most in
+    let shape = c.args.shape in
+    let finest = (accepted shape.degree shape.finest _ _ c.requires.accepted).fine.most in
     subst (λ (d : Drawing). Placed d 0) (sym c.first_of-d.ensures) (record { few = omega arith; finest = finest; within = zero-le })
 
 pub returns : goal.returns

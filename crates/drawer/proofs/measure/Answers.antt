@@ -1,6 +1,5 @@
 -- The tally of a run on an empty list is the answer.
 use mathlib.Core.Path.{sym, ap, ◌∙◌}
-use borrow.Author.Rules.{rules}
 use Rattle.rules.proofs.Refusals.{refuses}
 use Rattle.path.specs.Answer.{refused_by, measured}
 use Rattle.drawer.specs.declared.Tally.{Tally}

@@ -1,20 +1,12 @@
-use mathlib.Core.Path.{◌≡◌, refl, sym, ap, ◌∙◌, subst}
-use mathlib.Core.List.{List, ◌++◌}
-use Prim.Native.Nat.{ℕ, ◌+◌, ◌*◌, ◌-◌, ◌≤◌, ◌<◌}
-use native.Mathlib.Omega.{arith}
-use borrow.Author.Rules.{rules}
-use lib.Dec.{ltb}
-use lib.IntN.{ℤ}
+-- What was counted, with the pieces that are still to come from the place on, is the whole text.
+use mathlib.Core.Path.{◌≡◌}
+use Prim.Native.Nat.{ℕ, ◌+◌, ◌*◌, ◌-◌, ◌≤◌}
 use lib.ListN.{length}
-use lib.Seq.{length-sets, length-take-le}
-use Rattle.sheet.specs.NumberList.{number_at, sheet_of}
-use Rattle.path.proofs.Turns.{by_test}
-use Rattle.text.proofs.Pieces.{put_inside}
+use Rattle.sheet.specs.NumberList.{sheet_of}
 use Rattle.listing_text.specs.declared.Place.{Place}
-use Rattle.listing_text.specs.Lines.{paths_word, end, named}
 use Rattle.listing_text.specs.Listing.{sheet_text}
-use Rattle.listing_text.specs.Pieces.{segment_numbers, text_size, piece_text, next_place}
-use Rattle.printing.proofs.Coming.{Coming, coming_end, starts_inside, list_small, line_counted, piece_counted}
+use Rattle.listing_text.specs.Pieces.{segment_numbers, text_size}
+use Rattle.printing.proofs.Coming.{Coming}
 use Rattle.printing.proofs.print_paths.Given as goal
 
 -- falls with every turn

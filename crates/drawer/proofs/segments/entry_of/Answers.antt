@@ -6,7 +6,6 @@ use native.Mathlib.Omega.{arith}
 use mir.Syntax.{w32}
 use mir.Val.{to_z}
 use mir.Facts.{to_z_pos, to_z-of_z}
-use borrow.Author.Rules.{rules}
 use Rattle.engine.specs.declared.Shown.{Shown}
 use Rattle.engine.specs.Shown.{point}
 use Rattle.path.specs.Entries.{entry}
@@ -17,26 +16,24 @@ use Rattle.drawer.proofs.segments.entry_of.Goals as goal
 start : (F k : ℕ) → F ≤ 12 → k < 64 → k * 2 ^ F % 4294967296 ≡ 2 ^ F * k
 start F k f h = mod-eq_of_lt (omega (arith, position_most F k 0 f h zero-le, mul_comm k (2 ^ F))) ∙ mul_comm k (2 ^ F)
 
-pub overflow_add-position : goal.overflow_add-position
-overflow_add-position c =
-    let F = c.args.d.finest in
-    rw (start F c.args.k c.requires.finest c.requires.few) (record { fits = omega (arith, position_most F _ _ c.requires.finest c.requires.few c.requires.within) })
-
 pub overflow_cast-result : goal.overflow_cast-result
 overflow_cast-result c =
     let F = c.args.d.finest in
-    rw (start F c.args.k c.requires.finest c.requires.few) (record { sfits = omega (arith, position_most F _ _ c.requires.finest c.requires.few c.requires.within) })
+    let h = c.requires in
+    rw (start F c.args.k h.finest h.few) (record { sfits = omega (arith, position_most F _ _ h.finest h.few h.within) })
 
 pub returns : goal.returns
 unfolding entry point
 returns c =
     let q = c.args.d.q in
     let F = c.args.d.finest in
-    let fits-position = position_most F c.args.k q c.requires.finest c.requires.few c.requires.within in
-    let position = ap (λ (n : ℕ). to_z w32 (n + q)) (start F c.args.k c.requires.finest c.requires.few) ∙ to_z_pos w32 {n = 2 ^ F * c.args.k + q} (omega arith) in
-    let fits = c.struct_told-1.given in
+    let k = c.args.k in
+    let h = c.requires in
+    let most = position_most F k q h.finest h.few h.within in
+    let position = ap (λ (n : ℕ). to_z w32 (n + q)) (start F k h.finest h.few) ∙ to_z_pos w32 {n = 2 ^ F * k + q} (omega arith) in
+    let at = c.shown-shown.result in
     let shown = c.shown-shown.ensures in
-    let x = to_z-of_z {w = w32} (record { sfits = fits.0.1 }) ∙ ap (λ (p : Shown). p.x) shown in
-    let y = to_z-of_z {w = w32} (record { sfits = fits.1.0.1 }) ∙ ap (λ (p : Shown). p.y) shown in
-    let width = to_z-of_z {w = w32} (record { sfits = fits.1.1.0.1 }) ∙ ap (λ (p : Shown). p.width) shown in
+    let x = to_z-of_z {w = w32} {z = at.x} (record { sfits = omega arith }) ∙ ap (λ (p : Shown). p.x) shown in
+    let y = to_z-of_z {w = w32} {z = at.y} (record { sfits = omega arith }) ∙ ap (λ (p : Shown). p.y) shown in
+    let width = to_z-of_z {w = w32} {z = at.width} (record { sfits = omega arith }) ∙ ap (λ (p : Shown). p.width) shown in
     λ i. record { position = position i; x = x i; y = y i; width = width i }

@@ -1,6 +1,5 @@
 -- The start is accepted, so that it begins.
 use mathlib.Core.Path.{ap, ◌∙◌}
-use borrow.Author.Rules.{rules}
 use Rattle.rules.specs.declared.Degree.TheVariants.{Quadratic}
 use Rattle.engine.specs.declared.Moved.{Moved}
 use Rattle.drawer.proofs.Starts.{starts_first}

@@ -2,7 +2,6 @@
 use mathlib.Core.Path.{refl}
 use Prim.Native.Nat.{◌+◌, ◌*◌}
 use native.Mathlib.Omega.{arith}
-use borrow.Author.Rules.{rules}
 use Rattle.numbers.proofs.Machine.{number_read}
 use Rattle.rules.specs.Rules.{coordinates}
 use Rattle.path.specs.Path.{point_at, control}
@@ -16,7 +15,7 @@ returns c =
     let at = 2 * c.args.k in
     let i = coordinates * at + x in
     λ j. record {
-      p0 = number_read l i i refl c.result-1.given j;
-      p1 = number_read l (i + coordinates) (coordinates * (at + 1) + x) (omega arith) c.result-2-1.given j;
-      p2 = number_read l (i + 2 * coordinates) (coordinates * (at + 2) + x) (omega arith) c.result-3-1.given j;
+      p0 = number_read l i i refl (omega arith) j;
+      p1 = number_read l (i + coordinates) (coordinates * (at + 1) + x) (omega arith) (omega arith) j;
+      p2 = number_read l (i + 2 * coordinates) (coordinates * (at + 2) + x) (omega arith) (omega arith) j;
     }

@@ -10,10 +10,9 @@ use Rattle.entries.specs.declared.Entry.{Entry}
 use Rattle.entries.specs.Entries.{entry_size, entry_of, entries_in}
 use Rattle.entries.proofs.Numbers.{here_is, never_outside}
 use Rattle.path.specs.Joined.{shifted}
-use Rattle.text.proofs.Pieces.{Put, Gathered, gathered_none, gathered_more, gathered_all}
+use Rattle.text.proofs.Pieces.{Put, Gathered, gathered_more, gathered_all}
 use Rattle.listing_text.specs.Lines.{entry_line, entry_lines}
 use Rattle.listing_text.specs.Pieces.{lines_in}
-use borrow.Author.Rules.{rules}
 use Rattle.printing.proofs.lines.put_entries.Goals as goal
 use Rattle.printing.proofs.lines.put_entries.Goals.{In-loop-i, In_default}
 
@@ -44,31 +43,12 @@ module _ (l : List ℤ) (k : ℕ) {n count i at : ℕ} {t t₀ all : List ℕ} (
 inside : (c : In-loop-i) → entry_size * c.loop-i.i + entry_size ≤ length c.args.list.now
 inside c = omega (arith, c.loop-i-test.true, c.requires.0)
 
--- a list that has the entry answers it
-there : (c : In_default) → ⊥
-there c =
-    never_outside c.args.list.now c.loop-i.i (omega (arith, c.loop-i-test.true, c.requires.0)) c.entry_at.ensures c.in_default.is
-
-pub loop-i-init : goal.loop-i-init
-loop-i-init c = gathered_none _ _ _ c.requires.1
-
-pub entry_at-requires : goal.entry_at-requires
-entry_at-requires c = tt
-
-pub put_entry-to-requires : goal.put_entry-to-requires
-put_entry-to-requires c = tt
-
-pub loop-i-smaller : goal.loop-i-smaller
-loop-i-smaller c = omega (arith, c.loop-i-test.true)
-
 pub loop-i-preserved : goal.loop-i-preserved
 loop-i-preserved c =
     let a = c.args in
     let e = here_is a.list.now c.loop-i.i (inside (goal.at.loop-i-preserved c).In-loop-i) c.entry_at.ensures c.in-Here.is in
-    one_more a.list.now a.k c.loop-i.invariant c.loop-i-test.true e (c.put_entry-to.ensures.value, c.put_entry-to.ensures.text_after)
-
-pub shape_of-text-after-loop-i : goal.shape_of-text-after-loop-i
-shape_of-text-after-loop-i c = c.loop-i.invariant.size
+    let put = c.put_entry-to.ensures in
+    one_more a.list.now a.k c.loop-i.invariant c.loop-i-test.true e (put.value, put.text_after)
 
 pub returns-after-loop-i : goal.returns-after-loop-i
 returns-after-loop-i c =
@@ -76,9 +56,9 @@ returns-after-loop-i c =
     let both = all_put a.list.now a.k c.loop-i.invariant c.loop-i-test.false in
     record { value = both.0; text_after = both.1 }
 
-pub shape_of-text-in_default : goal.shape_of-text-in_default
-shape_of-text-in_default c = absurd (there (goal.at.shape_of-text-in_default c).In_default)
+-- a list that has the entry answers it
+there : (c : In_default) → ⊥
+there c = never_outside c.args.list.now c.loop-i.i (omega (arith, c.loop-i-test.true, c.requires.0)) c.entry_at.ensures c.in_default.is
 
 pub returns-in_default : goal.returns-in_default
-returns-in_default c =
-    absurd (there (goal.at.returns-in_default c).In_default)
+returns-in_default c = absurd (there (goal.at.returns-in_default c).In_default)

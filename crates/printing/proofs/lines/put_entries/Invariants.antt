@@ -1,18 +1,7 @@
-use mathlib.Core.Path.{◌≡◌, ap, subst}
-use mathlib.Core.List.{List, [], ◌++◌, map}
-use Prim.Native.Nat.{ℕ, suc, ◌+◌, ◌-◌, ◌*◌, ◌^◌, ◌≤◌, ◌<◌}
-use lib.ListN.{length}
-use native.Mathlib.Omega.{arith}
-use lib.IntN.{ℤ}
-use Rattle.rules.specs.Rules.{sheet_finest}
-use Rattle.entries.specs.declared.Entry.{Entry}
-use Rattle.entries.specs.Entries.{entry_size, entry_of, entries_in}
-use Rattle.entries.proofs.Numbers.{here_is, never_outside}
-use Rattle.path.specs.Joined.{shifted}
-use Rattle.text.proofs.Pieces.{Put, Gathered, gathered_none, gathered_more, gathered_all}
-use Rattle.listing_text.specs.Lines.{entry_line, entry_lines}
+-- What is put, with the lines that are still to come, is the text of all the lines; the measure is how many entries are left.
+use Prim.Native.Nat.{◌-◌}
+use Rattle.text.proofs.Pieces.{Gathered}
 use Rattle.listing_text.specs.Pieces.{lines_in}
-use borrow.Author.Rules.{rules}
 use Rattle.printing.proofs.lines.put_entries.Given as goal
 
 abbrev pub invariant-loop-i : goal.invariant-loop-i

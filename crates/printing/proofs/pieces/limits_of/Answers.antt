@@ -1,6 +1,5 @@
 -- The sheet's limits are numbers 1 and 2 of its list.
 use Rattle.sheet.specs.NumberList.{sheet_of}
-use borrow.Author.Rules.{rules}
 use Rattle.printing.proofs.pieces.limits_of.Goals as goal
 
 pub returns : goal.returns

@@ -4,7 +4,6 @@ use native.Mathlib.Omega.{arith}
 use borrow.Author.Tests.{lt-ltb, le-ltb}
 use Rattle.sheet.specs.NumberList.{number_at}
 use Rattle.listing_text.specs.Pieces.{next_place}
-use borrow.Author.Rules.{rules}
 use Rattle.printing.proofs.pieces.next_place.Goals as goal
 
 pub returns-then-following-segments : goal.returns-then-following-segments

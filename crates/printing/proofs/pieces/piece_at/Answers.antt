@@ -14,7 +14,6 @@ use Rattle.text.proofs.Pieces.{Put, put_as, put_both}
 use Rattle.listing_text.specs.declared.Place.{Place}
 use Rattle.listing_text.specs.Pieces.{path_in, segment_at, heading, heading_at, lines_in, piece_text}
 use Rattle.listing_text.proofs.Drawn.{segment_inside, piece_read}
-use borrow.Author.Rules.{rules}
 use Rattle.printing.proofs.pieces.piece_at.Goals as goal
 
 -- `d` and `after`: what drawing the segment answers and leaves in the list
@@ -32,20 +31,18 @@ pub put_entries-count-requires : goal.put_entries-count-requires
 unfolding reached
 put_entries-count-requires c =
     let a = c.args in
-    let size = length-sets a.text.now 0 (heading a.place.segment a.place.path (path_in a.numbers.now a.place.at)) in (
-      entries_inside a.numbers.now a.place a.list.now c.draw_segment-drawn.ensures.value c.draw_segment-drawn.ensures.list_after,
-      omega (arith, c.put_heading-at.ensures.value, ap length c.put_heading-at.ensures.text_after, size),
-    )
+    let h = c.put_heading-at.ensures in
+    let d = c.draw_segment-drawn.ensures in
+    let size = length-sets a.text.now 0 (heading a.place.segment a.place.path (path_in a.numbers.now a.place.at)) in
+    (entries_inside a.numbers.now a.place a.list.now d.value d.list_after, omega (arith, h.value, ap length h.text_after, size))
 
 pub returns : goal.returns
 returns c =
     let a = c.args in
+    let h = c.put_heading-at.ensures in
+    let d = c.draw_segment-drawn.ensures in
+    let lines = c.put_entries-count.ensures in
     let put =
-    piece_put a.numbers.now a.place a.list.now c.draw_segment-drawn.ensures.value c.draw_segment-drawn.ensures.list_after
-    a.text.now c.first_entry.ensures (c.put_heading-at.ensures.value, c.put_heading-at.ensures.text_after) (c.put_entries-count.ensures.value, c.put_entries-count.ensures.text_after) in
-    record {
-      count_value = put.0;
-      next_value = c.next_place.ensures;
-      text_after = put.1;
-      list_after = c.draw_segment-drawn.ensures.list_after;
-    }
+    piece_put a.numbers.now a.place a.list.now d.value d.list_after a.text.now c.first_entry.ensures (h.value, h.text_after)
+    (lines.value, lines.text_after) in
+    record { count = put.0; next = c.next_place.ensures; text_after = put.1; list_after = d.list_after }

@@ -10,7 +10,6 @@ use Rattle.text.proofs.Pieces.{put_as}
 use Rattle.listing_text.specs.Lines.{path_line}
 use Rattle.listing_text.specs.Pieces.{heading}
 use Rattle.printing.proofs.Reach.{path_by_numbers}
-use borrow.Author.Rules.{rules}
 use Rattle.printing.proofs.pieces.put_heading.Goals as goal
 
 heading_first : {k : ℕ} (i : ℕ) (p : Path) → k ≡ 0 → path_line i (measured p) ≡ heading k i p
@@ -31,6 +30,7 @@ returns c =
     let a = c.args in
     let found = path_by_numbers a.numbers.now a.place.at c.points_start-from.ensures c.points_end-to.ensures in
     let p = found c.shape_at.ensures c.limits_of.ensures in
-    let measured-whole = ap (path_line a.place.path) (c.measure-whole.ensures ∙ ap measured p) in
-    let both = put_as _ _ (measured-whole ∙ heading_first _ _ c.if-place-ne0.false) (c.path_line.ensures.value, c.path_line.ensures.text_after) in
+    let whole = ap (path_line a.place.path) (c.measure-whole.ensures ∙ ap measured p) in
+    let line = c.path_line.ensures in
+    let both = put_as _ _ (whole ∙ heading_first _ _ c.if-place-ne0.false) (line.value, line.text_after) in
     record { value = both.0; text_after = both.1 }

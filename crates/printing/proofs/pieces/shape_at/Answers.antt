@@ -1,7 +1,6 @@
 -- A path's segments and its mark are the two numbers before its points.
 use Rattle.rules.specs.Rules.{sheet_finest}
 use Rattle.sheet.specs.NumberList.{path_at}
-use borrow.Author.Rules.{rules}
 use Rattle.printing.proofs.pieces.shape_at.Goals as goal
 
 pub returns : goal.returns
