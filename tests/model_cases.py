@@ -112,14 +112,14 @@ def proved_bytes(name):
 
 def check_proved(tally):
     second = sheet_bytes(60_000, 26_000, SECOND_PATHS)
-    tally.equal("the second sheet", proved_bytes("secondBytes"), second)
-    tally.equal("its proved listing", proved_bytes("secondText"),
+    tally.equal("the second sheet", proved_bytes("second_bytes"), second)
+    tally.equal("its proved listing", proved_bytes("second_text"),
                 listing(second).encode())
-    tally.equal("the proved listing of A", proved_bytes("documentText"),
+    tally.equal("the proved listing of A", proved_bytes("document_text"),
                 LISTING.encode())
     outline = sheet_bytes(*LIMITS, [OUTLINE])
-    tally.equal("the outline's sheet", proved_bytes("outlineBytes"), outline)
-    tally.equal("its proved listing", proved_bytes("outlineText"),
+    tally.equal("the outline's sheet", proved_bytes("outline_bytes"), outline)
+    tally.equal("its proved listing", proved_bytes("outline_text"),
                 listing(outline).encode())
 
 

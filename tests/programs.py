@@ -1,8 +1,8 @@
 """The repository's programs: built where they are missing, and run.
 
 They are programs for x86-64, linked against the kit's C library: they run
-under the kit's loader, and on another processor under the kit's emulator as
-well. The kit is found by its command rt, as rt itself finds it.
+under the kit's loader, and under the kit's emulator as well where the kit has
+one. The kit is found by its command rt, as rt itself finds it.
 """
 import os
 import platform
