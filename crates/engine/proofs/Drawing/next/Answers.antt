@@ -41,24 +41,38 @@ module _ (d : Drawing) (upper lower : ℕ) (passes : choice_refusal d.finest upp
   low = le_trans lies.level lies.finest_most
 
 module _ (d : Drawing) (upper lower : ℕ) {x y : ℕ} (asked : Asked d upper lower x y) where
-  rule_1 : ((ltb upper x || ltb upper y) && ltb d.level d.finest) ≡ true → choice upper lower d ≡ says halve
+  -- the tests: to halve, and all but the doubled increments to double
+  abbrev halves : Bool
+  halves = (ltb upper x || ltb upper y) && ltb d.level d.finest
+
+  abbrev aligned : Bool
+  aligned = is_aligned d.finest d.level d.q
+
+  abbrev asks : Bool → Bool
+  asks test = ltb 0 d.level && (ltb x lower && ltb y lower) && test
+
+  rule_1 : halves ≡ true → choice upper lower d ≡ says halve
   unfolding choice choose wants_halve
   rule_1 t = simp (asked.passes, asked.by_x, asked.by_y, t)
 
-  rule_2 : ((ltb upper x || ltb upper y) && ltb d.level d.finest) ≡ false
-      → choice upper lower d ≡ says (cond (wants_double d.finest upper lower d.level d.q (λ k. of k d)) double step)
+  rule_2 : halves ≡ false → choice upper lower d ≡ says (cond (wants_double d.finest upper lower d.level d.q (λ k. of k d)) double step)
   unfolding choice choose wants_halve
   rule_2 t = simp (asked.passes, asked.by_x, asked.by_y, t)
 
-  -- all but the doubled increments
-  abbrev asks : Bool → Bool
-  asks aligned = ltb 0 d.level && (ltb x lower && ltb y lower) && aligned
-
-  doubles : {aligned : Bool} → aligned ≡ is_aligned d.finest d.level d.q → ((ltb upper x || ltb upper y) && ltb d.level d.finest) ≡ false
+  doubles : {test : Bool} → test ≡ aligned → halves ≡ false
       → choice upper lower d
-      ≡ says (cond (asks aligned && (leb (doubled_increment d.level d.x) upper && leb (doubled_increment d.level d.y) upper)) double step)
+      ≡ says (cond (asks test && (leb (doubled_increment d.level d.x) upper && leb (doubled_increment d.level d.y) upper)) double step)
   unfolding wants_double
   doubles a t = rule_2 t ∙ simp (asked.by_x, asked.by_y, sym a)
+
+  may_double : (test : Bool) → asks test ≡ true → (1 ≤ d.level) × (d.level ≤ most_finest)
+  may_double test t = (ltb-true 0 _ (and_three _ _ _ t).0, low d upper lower asked.passes)
+
+  -- with the doubled increments as they are reckoned
+  tried : {test : Bool} {u v : ℕ} → test ≡ aligned → halves ≡ false → asks test ≡ true
+      → u ≡ doubled_increment d.level d.x → v ≡ doubled_increment d.level d.y
+      → choice upper lower d ≡ says (cond (leb u upper && leb v upper) double step)
+  tried a t s by_u by_v = doubles a t ∙ simp (s, sym by_u, sym by_v)
 
 -- ---- refused
 
@@ -106,21 +120,11 @@ returns-then-not-level-smaller c =
 
 pub doubled_increment_of-doubled_x-requires : goal.doubled_increment_of-doubled_x-requires
 doubled_increment_of-doubled_x-requires c =
-    let a = asked (goal.at.doubled_increment_of-doubled_x-requires c).After-increment_of-y in
-    (ltb-true 0 _ (and_three _ _ _ c.if-not-level-smaller.false).0, low c.args.self _ _ a.passes)
+    may_double _ _ _ (asked (goal.at.doubled_increment_of-doubled_x-requires c).After-increment_of-y) _ c.if-not-level-smaller.false
 
 pub doubled_increment_of-doubled_y-requires : goal.doubled_increment_of-doubled_y-requires
 doubled_increment_of-doubled_y-requires c =
-    let a = asked (goal.at.doubled_increment_of-doubled_y-requires c).After-increment_of-y in
-    (ltb-true 0 _ (and_three _ _ _ c.if-not-level-smaller.false).0, low c.args.self _ _ a.passes)
-
--- the doubled increments, as they are reckoned
-module _ (d : Drawing) (upper lower : ℕ) {x y : ℕ} (asked : Asked d upper lower x y) where
-  tried : {aligned : Bool} {u v : ℕ} → aligned ≡ is_aligned d.finest d.level d.q
-      → ((ltb upper x || ltb upper y) && ltb d.level d.finest) ≡ false → asks d upper lower asked aligned ≡ true
-      → u ≡ doubled_increment d.level d.x → v ≡ doubled_increment d.level d.y
-      → choice upper lower d ≡ says (cond (leb u upper && leb v upper) double step)
-  tried a t s by_u by_v = doubles d upper lower asked a t ∙ simp (s, sym by_u, sym by_v)
+    may_double _ _ _ (asked (goal.at.doubled_increment_of-doubled_y-requires c).After-increment_of-y) _ c.if-not-level-smaller.false
 
 pub returns-then-doubled_x-upper : goal.returns-then-doubled_x-upper
 returns-then-doubled_x-upper c =

@@ -23,10 +23,11 @@ check_cubic-width-requires c = within (goal.at.check_cubic-width-requires c).Aft
 pub begin-requires : goal.begin-requires
 begin-requires c =
     let W = c.reach-reach.result in
-    let a = c.args in (
-      checked_mild Cubic W a.x c.check_cubic-x.ensures (within (goal.at.begin-requires c).After-reach-reach),
-      checked_mild Cubic W a.y c.check_cubic-y.ensures (within (goal.at.begin-requires c).After-reach-reach),
-      checked_mild Cubic W a.width c.check_cubic-width.ensures (within (goal.at.begin-requires c).After-reach-reach),
+    let a = c.args in
+    let most = within (goal.at.begin-requires c).After-reach-reach in (
+      checked_mild Cubic W a.x c.check_cubic-x.ensures most,
+      checked_mild Cubic W a.y c.check_cubic-y.ensures most,
+      checked_mild Cubic W a.width c.check_cubic-width.ensures most,
     )
 
 pub returns : goal.returns

@@ -23,10 +23,11 @@ check_quadratic-width-requires c = within (goal.at.check_quadratic-width-require
 pub begin-requires : goal.begin-requires
 begin-requires c =
     let W = c.reach-reach.result in
-    let a = c.args in (
-      checked_mild Quadratic W a.x c.check_quadratic-x.ensures (within (goal.at.begin-requires c).After-reach-reach),
-      checked_mild Quadratic W a.y c.check_quadratic-y.ensures (within (goal.at.begin-requires c).After-reach-reach),
-      checked_mild Quadratic W a.width c.check_quadratic-width.ensures (within (goal.at.begin-requires c).After-reach-reach),
+    let a = c.args in
+    let most = within (goal.at.begin-requires c).After-reach-reach in (
+      checked_mild Quadratic W a.x c.check_quadratic-x.ensures most,
+      checked_mild Quadratic W a.y c.check_quadratic-y.ensures most,
+      checked_mild Quadratic W a.width c.check_quadratic-width.ensures most,
     )
 
 pub returns : goal.returns
