@@ -5,7 +5,6 @@
 
 const STDIN_FILENO: i32 = 0;
 
-
 // The size before the last sheet, which ends where the input does.
 const TO_THE_END: u32 = 4294967295;
 
