@@ -1,3 +1,4 @@
+-- Each arm is a case of `ending`.
 use mathlib.Core.Path.{sym, ap}
 use Rattle.cleaned.specs.Cleaner.{ending}
 use Rattle.cleaner.proofs.end.Goals as goal

@@ -10,37 +10,37 @@ use Rattle.cleaner.proofs.move_of.Goals as goal
 use Rattle.cleaner.proofs.move_of.Goals.{Else-from-to, Then-from-to}
 
 -- the first test, of x
-same-x : (c : Then-from-to) → let a = c.args in eqbℤ a.from.x a.to.x ≡ true
-same-x c =
-    same_bits (told c.args.from c.struct_told-1.given).x (told c.args.to c.struct_told-2-1.given).x c.if-from-to.true
+same_x : (c : Then-from-to) → let a = c.args in eqbℤ a.from.x a.to.x ≡ true
+same_x c =
+    same_bits (told c.args.from c.well_formed.0.1.1).x (told c.args.to c.well_formed.1.0.1.1).x c.if-from-to.true
 
-other-x : (c : Else-from-to) → let a = c.args in eqbℤ a.from.x a.to.x ≡ false
-other-x c = let a = c.args in other_bits w32 a.from.x a.to.x c.if-from-to.false
+other_x : (c : Else-from-to) → let a = c.args in eqbℤ a.from.x a.to.x ≡ false
+other_x c = let a = c.args in other_bits w32 a.from.x a.to.x c.if-from-to.false
 
 pub returns-then-from-to-2 : goal.returns-then-from-to-2
 unfolding move
 returns-then-from-to-2 c =
     let a = c.args in
-    let from = told a.from c.struct_told-1.given in
-    let to = told a.to c.struct_told-2-1.given in
-    simp (same-x (goal.at.returns-then-from-to-2 c).Then-from-to, same_bits from.y to.y c.if-from-to-2.true)
+    let from = told a.from c.well_formed.0.1.1 in
+    let to = told a.to c.well_formed.1.0.1.1 in
+    simp (same_x (goal.at.returns-then-from-to-2 c).Then-from-to, same_bits from.y to.y c.if-from-to-2.true)
 
 pub returns-else-from-to-2 : goal.returns-else-from-to-2
 unfolding move
 returns-else-from-to-2 c =
     let a = c.args in
-    simp (same-x (goal.at.returns-else-from-to-2 c).Then-from-to, other_bits w32 a.from.y a.to.y c.if-from-to-2.false)
+    simp (same_x (goal.at.returns-else-from-to-2 c).Then-from-to, other_bits w32 a.from.y a.to.y c.if-from-to-2.false)
 
 pub returns-then-from-to-3 : goal.returns-then-from-to-3
 unfolding move
 returns-then-from-to-3 c =
     let a = c.args in
-    let from = told a.from c.struct_told-1.given in
-    let to = told a.to c.struct_told-2-1.given in
-    simp (other-x (goal.at.returns-then-from-to-3 c).Else-from-to, same_bits from.y to.y c.if-from-to-3.true)
+    let from = told a.from c.well_formed.0.1.1 in
+    let to = told a.to c.well_formed.1.0.1.1 in
+    simp (other_x (goal.at.returns-then-from-to-3 c).Else-from-to, same_bits from.y to.y c.if-from-to-3.true)
 
 pub returns-else-from-to-3 : goal.returns-else-from-to-3
 unfolding move
 returns-else-from-to-3 c =
     let a = c.args in
-    simp (other-x (goal.at.returns-else-from-to-3 c).Else-from-to, other_bits w32 a.from.y a.to.y c.if-from-to-3.false)
+    simp (other_x (goal.at.returns-else-from-to-3 c).Else-from-to, other_bits w32 a.from.y a.to.y c.if-from-to-3.false)
