@@ -1,8 +1,13 @@
 // The rules that every room shares: refusals 1 to 4, 14 and 24, as tests of any numbers.
 #![tactic(auto)]
 
+mod refused;
+
 ghost use Rattle.std.specs.Prelude.{◌≡◌};
+ghost use Rattle.rules.specs.Numbered.{refusal_of};
 ghost use Rattle.rules.specs.Rules.{is_finest, degree, most_reach, reach, is_coordinate, are_neighbours, is_level, are_limits, standard_limits, is_segments, point_numbers, is_size, head_refusal, are_points, are_chained, points_refusal, natural, marked};
+
+pub use refused::Refusal;
 
 // The finest level of a sheet's paths.
 pub const SHEET_FINEST: u32 = 11;
@@ -145,67 +150,54 @@ pub fn size(degree: Degree, count: u32, numbers: usize) -> bool
     numbers == point_numbers(degree, count)
 }
 
-// The refusal by a path's segments, 14, and by its start level, 3; 0 for none.
-pub fn head_refusal(finest: u32, count: u32, n: u32) -> u32
-    ensures { result ≡ head_refusal finest count n }
+// A path's segments and start level: refuses 14, 3.
+pub fn check_head(finest: u32, count: u32, n: u32) -> Result<(), Refusal>
+    ensures { refusal_of result ≡ head_refusal finest count n }
 {
     if !segments(count) {
-        return 14;
+        return Err(Refusal::Segments);
     }
     if !level(finest, n) {
-        return 3;
+        return Err(Refusal::StartLevel);
     }
-    0
+    Ok(())
 }
 
 // 1 over a whole path's points where it fails.
 pub fn points(numbers: &[i32]) -> bool
     ensures { result ≡ are_points numbers.now }
 {
-    let mut i: usize = 0;
-    while i < numbers.len() {
-        if !coordinate(numbers[i]) {
-            return false;
-        }
-        i += 1;
-    }
-    true
+    numbers.iter().all(|&p| coordinate(p))
 }
 
-// 2 over a whole path's points where it fails: j is the same coordinate as i, of the next point.
+// 2 over a whole path's points where it fails: q is the same coordinate as p, of the next point.
 pub fn chained(reach: u32, numbers: &[i32]) -> bool
     ensures { result ≡ are_chained reach numbers.now }
 {
-    let mut i: usize = 0;
-    let mut j = COORDINATES;
-    while j < numbers.len() {
-        if !neighbours(reach, numbers[i], numbers[j]) {
-            return false;
-        }
-        i += 1;
-        j += 1;
-    }
-    true
+    numbers
+        .iter()
+        .zip(numbers.iter().skip(COORDINATES))
+        .all(|(&p, &q)| neighbours(reach, p, q))
 }
 
-// The refusal by a whole path's points: 1, then 2; 0 for none.
-pub fn points_refusal(reach: u32, numbers: &[i32]) -> u32
-    ensures { result ≡ points_refusal reach numbers.now }
+// A whole path's points: refuses 1, 2.
+pub fn check_points(reach: u32, numbers: &[i32]) -> Result<(), Refusal>
+    ensures { refusal_of result ≡ points_refusal reach numbers.now }
 {
     if !points(numbers) {
-        return 1;
+        return Err(Refusal::Coordinate);
     }
     if !chained(reach, numbers) {
-        return 2;
+        return Err(Refusal::Neighbours);
     }
-    0
+    Ok(())
 }
 
 // A count, a limit, segments or a mark of a number list; one below 0 is larger than any rule allows.
 pub fn natural(z: i32) -> u32
     ensures { result ≡ natural z }
 {
-    if z < 0 { 4294967295 } else { z as u32 }
+    u32::try_from(z).unwrap_or(u32::MAX)
 }
 
 // The degree and the start level of a path, which a sheet and its number list have in one number, the mark.
@@ -215,11 +207,11 @@ pub struct Marked {
     pub level: u32,
 }
 
-impl Marked {
-    // From 256 on a mark is a quadratic's, and what is left after 256 is taken off is the level, whatever it is.
-    pub fn by(mark: u32) -> Marked
-        ensures { result ≡ marked mark }
-    {
+// From 256 on a mark is a quadratic's, and what is left after 256 is taken off is the level, whatever it is.
+impl From<u32> for Marked {
+    ghost from_gives = { λ mark r. r ≡ marked mark };
+
+    fn from(mark: u32) -> Marked {
         if mark < QUADRATIC_MARK {
             return Marked {
                 degree: Degree::Cubic,

@@ -1,7 +1,7 @@
 -- Each return rewrites `points_refusal` with the tests that led there.
 use mathlib.Core.Path.{sym, ◌∙◌}
 use Rattle.rules.specs.Rules.{points_refusal}
-use Rattle.rules.proofs.points_refusal.Goals as goal
+use Rattle.rules.proofs.check_points.Goals as goal
 
 pub returns-then-not-points : goal.returns-then-not-points
 unfolding points_refusal

@@ -1,7 +1,7 @@
 -- Each return rewrites `head_refusal` with the tests that led there.
 use mathlib.Core.Path.{sym, ◌∙◌}
 use Rattle.rules.specs.Rules.{head_refusal}
-use Rattle.rules.proofs.head_refusal.Goals as goal
+use Rattle.rules.proofs.check_head.Goals as goal
 
 pub returns-then-not-segments : goal.returns-then-not-segments
 unfolding head_refusal
