@@ -70,10 +70,6 @@ pub points_decided : (b : Bool) (l : List ℤ) → IsTrue b ↔ EachIndex l (λ 
 points_decided b l h = same_truth b (are_points l) ((λ e. hold_points l (h.0 e)), (λ e. h.1 (points_hold l e)))
 
 pub chained_decided : (W : ℕ) (b : Bool) (l : List ℤ)
-    → IsTrue b ↔ EachIndex (drop coordinates l) (λ i. IsTrue (are_neighbours W (get_or l i (pos 0)) (get_or (drop coordinates l) i (pos 0)))) → b ≡ are_chained W l
-unfolding are_chained
-chained_decided W b l h =
-    let l' = drop coordinates l in
-    let shorter : length l' ≤ length l = rw length-drop (omega arith) in
-    same_truth b (are_beside W l l')
-    ((λ e. hold_beside W l l' (λ i _ k. h.0 e i k)), (λ e. h.1 (λ i k. beside_hold W l l' e i (omega (arith, shorter, k)) k)))
+    → IsTrue b ↔ ((i : ℕ) → coordinates + i < length l → IsTrue (are_neighbours W (get_or l i (pos 0)) (get_or l (coordinates + i) (pos 0))))
+    → b ≡ are_chained W l
+chained_decided W b l h = same_truth b (are_chained W l) ((λ e. hold_chained W l (h.0 e)), (λ e. h.1 (chained_hold W l e)))

@@ -170,14 +170,13 @@ pub fn points(numbers: &[i32]) -> bool
     numbers.iter().all(|&p| coordinate(p))
 }
 
-// 2 over a whole path's points where it fails: q is the same coordinate as p, of the next point.
+// 2 over a whole path's points where it fails: each number and the same coordinate of the next point.
 pub fn chained(reach: u32, numbers: &[i32]) -> bool
     ensures { result ≡ are_chained reach numbers.now }
 {
     numbers
-        .iter()
-        .zip(numbers.iter().skip(COORDINATES))
-        .all(|(&p, &q)| neighbours(reach, p, q))
+        .windows(COORDINATES + 1)
+        .all(|w| neighbours(reach, w[0], w[COORDINATES]))
 }
 
 // A whole path's points: refuses 1, 2.
