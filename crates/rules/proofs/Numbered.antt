@@ -9,7 +9,7 @@ use Rattle.rules.specs.declared.refused.Refusal.{Refusal}
 use Rattle.rules.specs.declared.refused.Refusal.TheVariants as refusal
 use Rattle.rules.specs.Numbered.{number, refusal_of}
 
-every : List Refusal
+abbrev pub every : List Refusal
 every =
     refusal.Coordinate
     ∷ refusal.Neighbours
@@ -33,7 +33,6 @@ every =
 
 -- in the documents' order
 pub numbers_are : map number every ≡ 1 ∷ 2 ∷ 3 ∷ 4 ∷ 5 ∷ 6 ∷ 7 ∷ 8 ∷ 9 ∷ 10 ∷ 11 ∷ 12 ∷ 13 ∷ 14 ∷ 15 ∷ 16 ∷ 17 ∷ 24 ∷ []
-unfolding every
 numbers_are = refl
 
 pub number_positive : (r : Refusal) → number r ≡ 0 → ⊥
@@ -63,7 +62,7 @@ refusal_by : ℕ → Refusal
 refusal_by k = get_or every (k - 1) refusal.FinestLevel
 
 read_back : (r : Refusal) → refusal_by (number r) ≡ r
-unfolding refusal_by every
+unfolding refusal_by
 read_back refusal.Coordinate = refl
 read_back refusal.Neighbours = refl
 read_back refusal.StartLevel = refl
