@@ -1,4 +1,4 @@
--- Rules 1 and 2 over the points of a whole path: what they say of every number, and that a test of every number decides them.
+-- Rules 1 and 2 over the points of a whole path: what they say of every number.
 use mathlib.Core.Path.{◌≡◌, refl, sym, ap₂}
 use mathlib.Core.Bool.{Bool, true, false, ◌&&◌}
 use mathlib.Core.List.{List, [], ◌∷◌}
@@ -8,11 +8,8 @@ use native.Mathlib.Omega.{arith}
 use lib.IntN.{ℤ, pos}
 use lib.ListN.{length, get_or, drop, length-drop}
 use lib.Seq.{get_or-drop}
-use Rattle.std.specs.Prelude.{◌↔◌, IsTrue, EachIndex}
 use Rattle.numbers.proofs.Tests.{and_true}
 use Rattle.rules.specs.Rules.{is_coordinate, are_neighbours, coordinates, are_points, are_beside, are_chained}
-
--- ---- every number
 
 pub points_hold : (l : List ℤ) → are_points l ≡ true → (i : ℕ) → i < length l → is_coordinate (get_or l i (pos 0)) ≡ true
 unfolding are_points
@@ -56,19 +53,3 @@ hold_chained W l h = hold_beside W l (drop coordinates l) each
   where
     each : (i : ℕ) → i < length l → i < length (drop coordinates l) → are_neighbours W (get_or l i (pos 0)) (get_or (drop coordinates l) i (pos 0)) ≡ true
     each i j k = rw get_or-drop (h i (omega (arith, length-drop coordinates l)))
-
--- ---- a test of every number
-
--- two tests that are true together are the same
-same_truth : (a b : Bool) → IsTrue a ↔ IsTrue b → a ≡ b
-same_truth true b h = sym (h.0 refl)
-same_truth false true h = h.1 refl
-same_truth false false h = refl
-
-pub points_decided : (b : Bool) (l : List ℤ) → IsTrue b ↔ EachIndex l (λ i. IsTrue (is_coordinate (get_or l i (pos 0)))) → b ≡ are_points l
-points_decided b l h = same_truth b (are_points l) ((λ e. hold_points l (h.0 e)), (λ e. h.1 (points_hold l e)))
-
-pub chained_decided : (W : ℕ) (b : Bool) (l : List ℤ)
-    → IsTrue b ↔ ((i : ℕ) → coordinates + i < length l → IsTrue (are_neighbours W (get_or l i (pos 0)) (get_or l (coordinates + i) (pos 0))))
-    → b ≡ are_chained W l
-chained_decided W b l h = same_truth b (are_chained W l) ((λ e. hold_chained W l (h.0 e)), (λ e. h.1 (chained_hold W l e)))

@@ -2,7 +2,7 @@
 use Rattle.std.proofs.Common.{rules, ℕ, ◌+◌, ◌<◌, length}
 use Rattle.std.specs.Prelude.{◌↔◌, IsTrue, get_or, pos}
 use Rattle.rules.specs.Rules.{coordinates, are_neighbours}
-use Rattle.rules.proofs.Every.{chained_decided}
+use Rattle.rules.proofs.Decided.{chained_decided}
 use Rattle.rules.proofs.chained.Goals as goal
 
 pub returns : goal.returns

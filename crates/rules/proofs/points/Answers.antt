@@ -2,7 +2,7 @@
 use Rattle.std.proofs.Common.{rules}
 use Rattle.std.specs.Prelude.{◌↔◌, IsTrue, EachIndex, get_or, pos}
 use Rattle.rules.specs.Rules.{is_coordinate}
-use Rattle.rules.proofs.Every.{points_decided}
+use Rattle.rules.proofs.Decided.{points_decided}
 use Rattle.rules.proofs.points.Goals as goal
 
 pub returns : goal.returns
