@@ -17,10 +17,9 @@ use Rattle.entries.specs.declared.Entry.{Entry}
 use Rattle.entries.specs.Entries.{entry_size, flat}
 use Rattle.entries.specs.Length.{length_from, length_of}
 use Rattle.entries.proofs.Numbers.{length_flat}
-use Rattle.path.specs.declared.Drawn.{Drawn}
 use Rattle.path.specs.Path.{Path, path_refusal, first}
 use Rattle.path.specs.Entries.{entry, following, entries}
-use Rattle.path.specs.Answer.{draw_refusal, refused_by, answer, measured, drawn, written}
+use Rattle.path.specs.Answer.{Drawn, draw_refusal, refused_by, answer, measured, drawn, written}
 use Rattle.path.proofs.Demand1.{measured_refusal}
 use Rattle.drawer.specs.declared.Tally.{Tally}
 use Rattle.drawer.specs.Tally.{begun, added, added_all, tally}

@@ -12,11 +12,10 @@ use Rattle.rules.specs.Refusals.{refusal_or, filled}
 use Rattle.entries.specs.declared.Entry.{Entry}
 use Rattle.entries.specs.Entries.{entry_size, flat, entries_in}
 use Rattle.entries.proofs.Numbers.{length_flat, entries_back}
-use Rattle.path.specs.declared.Drawn.{Drawn}
 use Rattle.path.specs.Path.{Path}
 use Rattle.path.specs.Entries.{entries}
 use Rattle.path.specs.Joined.{alone, shifted}
-use Rattle.path.specs.Answer.{draw_refusal, refused_by, answer, drawn, written}
+use Rattle.path.specs.Answer.{Drawn, draw_refusal, refused_by, answer, drawn, written}
 use Rattle.listing_text.specs.declared.Place.{Place}
 use Rattle.listing_text.specs.Lines.{entry_lines}
 use Rattle.listing_text.specs.Pieces.{path_in, segment_at, segment_entries, added, lines_in, heading_at, piece_text}

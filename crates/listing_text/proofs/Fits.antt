@@ -16,11 +16,10 @@ use Rattle.distance.specs.Calls.{after}
 use Rattle.entries.specs.declared.Entry.{Entry}
 use Rattle.text.proofs.Decimal.{decimal_few, numeral_few}
 use Rattle.text.proofs.Pieces.{put_whole}
-use Rattle.path.specs.declared.Drawn.{Drawn}
 use Rattle.path.specs.Path.{Path, path_refusal}
 use Rattle.path.specs.Entries.{entry, entries}
 use Rattle.path.specs.Joined.{alone, shifted}
-use Rattle.path.specs.Answer.{measured}
+use Rattle.path.specs.Answer.{Drawn, measured}
 use Rattle.path.specs.Listed.{begins, Placed}
 use Rattle.path.proofs.Accepted.{accepted_lawful}
 use Rattle.path.proofs.Joined.{alone_accepted}

@@ -2,7 +2,7 @@
 use Rattle.std.specs.Prelude.{List, [], ◌∷◌, ◌++◌, ℕ, ℤ}
 use Rattle.text.specs.Decimal.{decimal, numeral}
 use Rattle.entries.specs.declared.Entry.{Entry}
-use Rattle.path.specs.declared.Drawn.{Drawn}
+use Rattle.path.specs.Answer.{Drawn}
 
 -- "paths ", "path ", " points ", " length ", "refused "
 abbrev pub paths_word : List ℕ

@@ -16,10 +16,9 @@ use Rattle.rules.proofs.Refusals.{rule_kept, line_among, untabled, among, first_
 use Rattle.entries.specs.Entries.{entry_size, flat}
 use Rattle.entries.specs.Length.{length_of}
 use Rattle.path.specs.declared.Shape.{Shape}
-use Rattle.path.specs.declared.Drawn.{Drawn}
 use Rattle.path.specs.Path.{Path, path, path_refusal}
 use Rattle.path.specs.Entries.{entries}
-use Rattle.path.specs.Answer.{draw_refusal, measure_table, draw_table, standard_measure_table, standard_draw_table, refused_by, answer, measured, drawn, written}
+use Rattle.path.specs.Answer.{Drawn, draw_refusal, measure_table, draw_table, standard_measure_table, standard_draw_table, refused_by, answer, measured, drawn, written}
 
 -- ---- the numbers that are answered
 

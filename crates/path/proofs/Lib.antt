@@ -3,6 +3,7 @@ pub mod Points
 pub mod Accepted
 pub mod Refusals
 pub mod Demand1
+pub mod Answered
 pub mod Segments
 pub mod Turns
 pub mod Joined

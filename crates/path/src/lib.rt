@@ -13,10 +13,9 @@ pub struct Shape {
     pub level: u32,
 }
 
-// The answer to drawing or measuring a path: the number of points and the length, or the refusal with 0 for both.
-#[derive(Clone, Copy)]
-pub struct Drawn {
-    pub refusal: u32,
+// What drawing and measuring a path answer where nothing refuses it: the number of points and the length.
+#[derive(Clone, Copy, Default)]
+pub struct Totals {
     pub points: u32,
     pub length: u32,
 }

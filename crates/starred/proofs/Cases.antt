@@ -30,11 +30,10 @@ use Rattle.engine.specs.Drawing.{turned}
 use Rattle.engine.proofs.Cases as engine
 use Rattle.entries.specs.Entries.{entry_size, flat}
 use Rattle.entries.specs.Length.{move_length, length_from, length_of}
-use Rattle.path.specs.declared.Drawn.{Drawn}
 use Rattle.path.specs.Path.{Path, path, path_refusal, point_at, control, first}
 use Rattle.path.specs.Segment.{turns_in, turns}
 use Rattle.path.specs.Entries.{entry, shown_by, rest, following, entries}
-use Rattle.path.specs.Answer.{draw_refusal, measured, drawn, written}
+use Rattle.path.specs.Answer.{Drawn, draw_refusal, measured, drawn, written}
 
 -- the control points of each coordinate, and the list: its positions, and what it shows of each coordinate; its length, where it is given
 pub record Row : Type 0 where

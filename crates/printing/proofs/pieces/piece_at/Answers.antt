@@ -7,8 +7,7 @@ use lib.IntN.{ℤ}
 use lib.ListN.{length}
 use lib.Seq.{length-sets}
 use Rattle.entries.specs.Entries.{entry_size}
-use Rattle.path.specs.declared.Drawn.{Drawn}
-use Rattle.path.specs.Answer.{drawn, written}
+use Rattle.path.specs.Answer.{Drawn, drawn, written}
 use Rattle.text.specs.Reached.{reached}
 use Rattle.text.proofs.Pieces.{Put, put_as, put_both}
 use Rattle.listing_text.specs.declared.Place.{Place}
