@@ -4,7 +4,7 @@
 use entries::Entry;
 
 // From one entry to the next, by the coordinates that change.
-#[derive(Clone, Copy)]
+#[derive(Clone, Copy, PartialEq, Eq)]
 pub enum Move {
     Stays,
     AlongX,
@@ -23,16 +23,9 @@ pub enum Cleaner {
     Undecided(Entry, Entry, Entry),
 }
 
-// An entry of the cleaned list, where one is settled.
-#[derive(Clone, Copy)]
-pub enum Settled {
-    One(Entry),
-    Nothing,
-}
-
-// A cleaner that was fed an entry, and what that settled.
+// A cleaner that was fed an entry, and the entry of the cleaned list that this settled, where it settled one.
 #[derive(Clone, Copy)]
 pub struct Fed {
     pub cleaner: Cleaner,
-    pub settled: Settled,
+    pub settled: Option<Entry>,
 }

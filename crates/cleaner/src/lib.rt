@@ -2,10 +2,10 @@
 #![tactic(auto)]
 
 ghost use Rattle.std.specs.Prelude.{◌≡◌};
-ghost use Rattle.cleaned.specs.Moves.{move, stays, is_along_x, is_along_y, elbow};
+ghost use Rattle.cleaned.specs.Moves.{move, elbow};
 ghost use Rattle.cleaned.specs.Cleaner.{fed_kept, fed_undecided, fed, ending};
 
-use cleaned::{Cleaner, Fed, Move, Settled};
+use cleaned::{Cleaner, Fed, Move};
 use entries::Entry;
 
 // One entry more.
@@ -15,7 +15,7 @@ pub fn feed(c: Cleaner, e: Entry) -> Fed
     match c {
         Cleaner::Empty => Fed {
             cleaner: Cleaner::Kept(e, e),
-            settled: Settled::Nothing,
+            settled: None,
         },
         Cleaner::Kept(kept, _) => feed_kept(kept, e),
         Cleaner::Undecided(kept, undecided, _) => feed_undecided(kept, undecided, e),
@@ -23,13 +23,12 @@ pub fn feed(c: Cleaner, e: Entry) -> Fed
 }
 
 // What is left at the end: the last entry, where there was one.
-pub fn end(c: Cleaner) -> Settled
+pub fn end(c: Cleaner) -> Option<Entry>
     ensures { result ≡ ending c }
 {
     match c {
-        Cleaner::Empty => Settled::Nothing,
-        Cleaner::Kept(_, latest) => Settled::One(latest),
-        Cleaner::Undecided(_, _, latest) => Settled::One(latest),
+        Cleaner::Empty => None,
+        Cleaner::Kept(_, latest) | Cleaner::Undecided(_, _, latest) => Some(latest),
     }
 }
 
@@ -37,15 +36,15 @@ pub fn end(c: Cleaner) -> Settled
 fn feed_kept(kept: Entry, e: Entry) -> Fed
     ensures { result ≡ fed_kept kept e }
 {
-    if is_stay(move_of(kept, e)) {
+    if move_of(kept, e) == Move::Stays {
         return Fed {
             cleaner: Cleaner::Kept(kept, e),
-            settled: Settled::Nothing,
+            settled: None,
         };
     }
     Fed {
         cleaner: Cleaner::Undecided(kept, e, e),
-        settled: Settled::One(kept),
+        settled: Some(kept),
     }
 }
 
@@ -54,21 +53,21 @@ fn feed_undecided(kept: Entry, undecided: Entry, e: Entry) -> Fed
     ensures { result ≡ fed_undecided kept undecided e }
 {
     let next = move_of(undecided, e);
-    if is_stay(next) {
+    if next == Move::Stays {
         return Fed {
             cleaner: Cleaner::Undecided(kept, undecided, e),
-            settled: Settled::Nothing,
+            settled: None,
         };
     }
     if is_elbow(move_of(kept, undecided), next) {
         return Fed {
             cleaner: Cleaner::Kept(e, e),
-            settled: Settled::Nothing,
+            settled: None,
         };
     }
     Fed {
         cleaner: Cleaner::Undecided(undecided, e, e),
-        settled: Settled::One(undecided),
+        settled: Some(undecided),
     }
 }
 
@@ -78,51 +77,11 @@ fn feed_undecided(kept: Entry, undecided: Entry, e: Entry) -> Fed
 fn move_of(from: Entry, to: Entry) -> Move
     ensures { result ≡ move from to }
 {
-    if from.x == to.x {
-        if from.y == to.y {
-            Move::Stays
-        } else {
-            Move::AlongY
-        }
-    } else {
-        if from.y == to.y {
-            Move::AlongX
-        } else {
-            Move::Diagonal
-        }
-    }
-}
-
-fn is_stay(m: Move) -> bool
-    ensures { result ≡ stays m }
-{
-    match m {
-        Move::Stays => true,
-        Move::AlongX => false,
-        Move::AlongY => false,
-        Move::Diagonal => false,
-    }
-}
-
-fn is_along_x(m: Move) -> bool
-    ensures { result ≡ is_along_x m }
-{
-    match m {
-        Move::Stays => false,
-        Move::AlongX => true,
-        Move::AlongY => false,
-        Move::Diagonal => false,
-    }
-}
-
-fn is_along_y(m: Move) -> bool
-    ensures { result ≡ is_along_y m }
-{
-    match m {
-        Move::Stays => false,
-        Move::AlongX => false,
-        Move::AlongY => true,
-        Move::Diagonal => false,
+    match (from.x == to.x, from.y == to.y) {
+        (true, true) => Move::Stays,
+        (true, false) => Move::AlongY,
+        (false, true) => Move::AlongX,
+        (false, false) => Move::Diagonal,
     }
 }
 
@@ -130,10 +89,8 @@ fn is_along_y(m: Move) -> bool
 fn is_elbow(first: Move, second: Move) -> bool
     ensures { result ≡ elbow first second }
 {
-    match first {
-        Move::Stays => false,
-        Move::AlongX => is_along_y(second),
-        Move::AlongY => is_along_x(second),
-        Move::Diagonal => false,
-    }
+    matches!(
+        (first, second),
+        (Move::AlongX, Move::AlongY) | (Move::AlongY, Move::AlongX)
+    )
 }

@@ -9,9 +9,8 @@ use lib.IntN.{ℤ, pos}
 use lib.ListN.{length, get_or, length-append}
 use lib.Seq.{get_or-append-add}
 use borrow.Author.Tests.{lt-ltb, le-ltb}
+use Rattle.std.specs.Prelude.{Some, None, Option as Answer}
 use Rattle.entries.specs.declared.Entry.{Entry}
-use Rattle.entries.specs.declared.Found.{Found}
-use Rattle.entries.specs.declared.Found.TheVariants.{Here, Outside}
 use Rattle.entries.specs.Entries.{entry_size, numbers, flat, entry_of, entry_at, found, entries_in}
 
 -- position, x, y, width, in this order
@@ -92,22 +91,22 @@ entry_of_flat es after i e h =
 
 -- ---- what `found` gives of an answer determines the answer
 
-pub found_determines : (r r' : Found) → found r ≡ found r' → r ≡ r'
+pub found_determines : (r r' : Answer Entry) → found r ≡ found r' → r ≡ r'
 found_determines r r' e = sym (meant_found r) ∙ ap meant e ∙ meant_found r'
   where
-    meant : Option Entry → Found
-    meant (some e) = Here e
-    meant none = Outside
+    meant : Option Entry → Answer Entry
+    meant (some e) = Some e
+    meant none = None
 
-    meant_found : (r : Found) → meant (found r) ≡ r
-    meant_found (Here e) = refl
-    meant_found Outside = refl
+    meant_found : (r : Answer Entry) → meant (found r) ≡ r
+    meant_found (Some e) = refl
+    meant_found None = refl
 
 -- ---- an answer, where the list reaches that far
 
-module _ (l : List ℤ) (i : ℕ) (h : entry_size * i + entry_size ≤ length l) {r : Found} (f : found r ≡ entry_at l i) where
-  pub here_is : {e : Entry} → r ≡ Here e → e ≡ entry_of l i
+module _ (l : List ℤ) (i : ℕ) (h : entry_size * i + entry_size ≤ length l) {r : Answer Entry} (f : found r ≡ entry_at l i) where
+  pub here_is : {e : Entry} → r ≡ Some e → e ≡ entry_of l i
   here_is {e} q = let same : some e ≡ some (entry_of l i) = sym (ap found q) ∙ f ∙ entry_there l i h in cc
 
-  pub never_outside : r ≡ Outside → ⊥
+  pub never_outside : r ≡ None → ⊥
   never_outside q = some-ne-none (entry_of l i) (sym (entry_there l i h) ∙ sym f ∙ ap found q)

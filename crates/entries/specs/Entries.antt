@@ -1,9 +1,8 @@
 -- A point list: its entries, and the entries as the numbers of a lent list.
 use Rattle.std.specs.Prelude.{◌≡◌, cond, List, [], ◌∷◌, ◌++◌, ℕ, zero, suc, ◌+◌, ◌*◌, ◌/◌, ltb, ℤ, pos, length, get_or}
+use Rattle.std.specs.Prelude.{Some, None, Option as Answer}
 use Rattle.std.proofs.Math.Option.{Option, none, some}
 use Rattle.entries.specs.declared.Entry.{Entry}
-use Rattle.entries.specs.declared.Found.{Found}
-use Rattle.entries.specs.declared.Found.TheVariants.{Here, Outside}
 
 -- an entry is four numbers: position, x, y, width
 abbrev pub entry_size : ℕ
@@ -33,9 +32,10 @@ entry_of l i =
 unfoldable pub entry_at : List ℤ → ℕ → Option Entry
 entry_at l i = cond (ltb i (length l / entry_size)) (some (entry_of l i)) none
 
-abbrev pub found : Found → Option Entry
-found (Here e) = some e
-found Outside = none
+-- an answer of the code as one of a definition
+abbrev pub found : Answer Entry → Option Entry
+found (Some e) = some e
+found None = none
 
 -- n entries, from entry i on
 unfoldable pub entries_in : List ℤ → ℕ → ℕ → List Entry

@@ -18,26 +18,16 @@ pub struct Entry {
     pub width: i32,
 }
 
-// An entry that was asked for, where the list reaches that far.
-#[derive(Clone, Copy)]
-pub enum Found {
-    Here(Entry),
-    Outside,
-}
-
 // Stores the four numbers of an entry from place `at` on, as far as the list reaches.
 pub fn put(list: &mut [i32], at: usize, e: Entry)
     ensures { list.new ≡ sets list.old at (numbers e) }
 {
-    let position = e.position;
-    let x = e.x;
-    let y = e.y;
-    let width = e.width;
+    // Four stores: a `for` over the places zipped with the numbers, and a copy of a slice, take twice the time.
     if at < list.len() {
-        store(list, at, position);
-        store(list, at + 1, x);
-        store(list, at + 2, y);
-        store(list, at + 3, width);
+        store(list, at, e.position);
+        store(list, at + 1, e.x);
+        store(list, at + 2, e.y);
+        store(list, at + 3, e.width);
     }
 }
 
@@ -50,15 +40,15 @@ fn store(list: &mut [i32], at: usize, v: i32)
     }
 }
 
-// Entry `i` of a list.
-pub fn entry_at(list: &[i32], i: usize) -> Found
+// Entry `i` of a list, where the list reaches that far.
+pub fn entry_at(list: &[i32], i: usize) -> Option<Entry>
     ensures { found result ≡ entry_at list.now i }
 {
     if i >= list.len() / ENTRY_SIZE {
-        return Found::Outside;
+        return None;
     }
     let at = ENTRY_SIZE * i;
-    Found::Here(Entry {
+    Some(Entry {
         position: list[at],
         x: list[at + 1],
         y: list[at + 2],
@@ -70,9 +60,10 @@ pub fn entry_at(list: &[i32], i: usize) -> Found
 pub fn move_length(from: Entry, to: Entry) -> u32
     ensures { result ≡ move_length from to }
 {
-    if from.x == to.x {
-        if from.y == to.y { 0 } else { 1000 }
-    } else {
-        if from.y == to.y { 1000 } else { 1414 }
+    match (from.x == to.x, from.y == to.y) {
+        (true, true) => 0,
+        (true, false) => 1000,
+        (false, true) => 1000,
+        (false, false) => 1414,
     }
 }

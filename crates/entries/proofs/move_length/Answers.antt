@@ -1,46 +1,35 @@
--- Each return rewrites the tests of `move_length` with what its branch found: numbers of 32 bits are equal where their bits are.
-use mathlib.Core.Path.{◌≡◌}
-use mathlib.Core.Bool.{true, false}
+-- Each arm rewrites the tests of `move_length` with what it found: numbers of 32 bits are equal where their bits are.
 use mir.Syntax.{w32}
-use Rattle.numbers.specs.Tests.{eqbℤ}
 use Rattle.numbers.proofs.Machine.{same_bits, other_bits}
 use Rattle.entries.specs.Length.{move_length}
 use Rattle.entries.proofs.Fitting.{told}
 use Rattle.entries.proofs.move_length.Goals as goal
-use Rattle.entries.proofs.move_length.Goals.{Else-from-to, Then-from-to}
 
--- the first test, of x
-same_x : (c : Then-from-to) → let a = c.args in eqbℤ a.from.x a.to.x ≡ true
-same_x c =
-    same_bits (told c.args.from c.well_formed.0.1.1).x (told c.args.to c.well_formed.1.0.1.1).x c.if-from-to.true
-
-other_x : (c : Else-from-to) → let a = c.args in eqbℤ a.from.x a.to.x ≡ false
-other_x c = let a = c.args in other_bits w32 a.from.x a.to.x c.if-from-to.false
-
-pub returns-then-from-to-2 : goal.returns-then-from-to-2
+pub returns-in-true-true : goal.returns-in-true-true
 unfolding move_length
-returns-then-from-to-2 c =
+returns-in-true-true c =
+    let from = told c.args.from c.well_formed.0.1.1 in
+    let to = told c.args.to c.well_formed.1.0.1.1 in
+    rw (same_bits from.x to.x c.in-true-true.is-0, same_bits from.y to.y c.in-true-true.is-1)
+
+pub returns-in-true-false : goal.returns-in-true-false
+unfolding move_length
+returns-in-true-false c =
     let a = c.args in
     let from = told a.from c.well_formed.0.1.1 in
     let to = told a.to c.well_formed.1.0.1.1 in
-    simp (same_x (goal.at.returns-then-from-to-2 c).Then-from-to, same_bits from.y to.y c.if-from-to-2.true)
+    rw (same_bits from.x to.x c.in-true-false.is-0, other_bits w32 a.from.y a.to.y c.in-true-false.is-1)
 
-pub returns-else-from-to-2 : goal.returns-else-from-to-2
+pub returns-in-false-true : goal.returns-in-false-true
 unfolding move_length
-returns-else-from-to-2 c =
-    let a = c.args in
-    simp (same_x (goal.at.returns-else-from-to-2 c).Then-from-to, other_bits w32 a.from.y a.to.y c.if-from-to-2.false)
-
-pub returns-then-from-to-3 : goal.returns-then-from-to-3
-unfolding move_length
-returns-then-from-to-3 c =
+returns-in-false-true c =
     let a = c.args in
     let from = told a.from c.well_formed.0.1.1 in
     let to = told a.to c.well_formed.1.0.1.1 in
-    simp (other_x (goal.at.returns-then-from-to-3 c).Else-from-to, same_bits from.y to.y c.if-from-to-3.true)
+    rw (other_bits w32 a.from.x a.to.x c.in-false-true.is-0, same_bits from.y to.y c.in-false-true.is-1)
 
-pub returns-else-from-to-3 : goal.returns-else-from-to-3
+pub returns-in-false-false : goal.returns-in-false-false
 unfolding move_length
-returns-else-from-to-3 c =
+returns-in-false-false c =
     let a = c.args in
-    simp (other_x (goal.at.returns-else-from-to-3 c).Else-from-to, other_bits w32 a.from.y a.to.y c.if-from-to-3.false)
+    rw (other_bits w32 a.from.x a.to.x c.in-false-false.is-0, other_bits w32 a.from.y a.to.y c.in-false-false.is-1)
