@@ -1,14 +1,13 @@
 -- Past the end nothing is put. Otherwise the copy is as long as the piece and the text allow.
 use mathlib.Core.Path.{◌≡◌, refl, sym, ap, ◌∙◌}
-use mathlib.Core.Bool.{Bool, true, false}
-use mathlib.Core.List.{List}
+use mathlib.Core.List.{List, []}
+use mathlib.Core.Logic.{⊎_elim}
 use Prim.Native.Nat.{ℕ, ◌+◌, ◌-◌, ◌≤◌, min}
 use native.Mathlib.Omega.{arith}
-use borrow.Author.Tests.{leb-true, leb-false}
-use lib.Dec.{leb}
 use lib.ListN.{length, take, drop, take-append-drop, drop_of_length-le}
 use lib.Seq.{sets, sets-eq, paste, length-sets, length-take-le}
 use Rattle.std.proofs.Common.{rules}
+use Rattle.std.proofs.lemmas.Bool.{cases_lt}
 use Rattle.std.proofs.lemmas.Slice.{overwrites}
 use Rattle.numbers.proofs.Buffers.{sets_append, sets_out}
 use Rattle.text.specs.Reached.{reached}
@@ -19,14 +18,14 @@ sets_cut : (t : List ℕ) (at : ℕ) (a : List ℕ) (n : ℕ) → at ≤ length 
 sets_cut t at a n h e =
     let size = length-take-le n a (omega (arith, e)) in
     let part : sets t at (take n a) ≡ paste t at a n = rw size at (sets-eq (take n a) t at (omega (arith, size))) in
-    ap (λ piece. sets t at piece) (sym (take-append-drop n a)) ∙ sets_append t at (take n a) (drop n a) ∙ rest size (leb (length a) n) refl ∙ part
+    ap (λ piece. sets t at piece) (sym (take-append-drop n a)) ∙ sets_append t at (take n a) (drop n a) ∙ rest size ∙ part
   where
-    rest : length (take n a) ≡ n → (whole : Bool) → leb (length a) n ≡ whole
-        → sets (sets t at (take n a)) (at + length (take n a)) (drop n a) ≡ sets t at (take n a)
-    rest size true w = rw (drop_of_length-le a (leb-true _ _ w)) refl
-    rest size false w =
-        let short = leb-false (length a) n w in
-        sets_out _ _ (drop n a) (omega (arith, size, e, length-sets t at (take n a)))
+    rest : length (take n a) ≡ n → sets (sets t at (take n a)) (at + length (take n a)) (drop n a) ≡ sets t at (take n a)
+    rest size =
+        ⊎_elim
+        (λ short. sets_out _ _ (drop n a) (omega (arith, short, size, e, length-sets t at (take n a))))
+        (λ whole. let none : drop n a ≡ [] = drop_of_length-le a whole in rw none refl)
+        (cases_lt n (length a))
 
 pub returns-then-text-at : goal.returns-then-text-at
 unfolding reached
