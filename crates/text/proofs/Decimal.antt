@@ -1,15 +1,14 @@
 -- Decimal digits: the equations without fuel, that the digits say their number, how many there are, and that io's digits are these.
 use mathlib.Core.Path.{◌≡◌, refl, sym, ap, ◌∙◌, subst}
-use mathlib.Core.Bool.{Bool, true, false}
 use mathlib.Core.List.{List, [], ◌∷◌, ◌++◌}
-use mathlib.Core.Logic.{◌⊎◌, inl, inr, ⊎_elim}
+use mathlib.Core.Logic.{⊎_elim}
 use Prim.Native.Nat.{ℕ, zero, suc, ◌+◌, ◌-◌, ◌*◌, ◌/◌, ◌%◌, ◌^◌, ◌≤◌, ◌<◌}
 use native.Mathlib.Nat.{mod-lt, mod-eq_of_lt, pow-suc, one-le-pow}
 use native.Mathlib.Omega.{arith}
-use borrow.Author.Tests.{lt-ltb, le-ltb, ltb-true, ltb-false, ne_eqb}
-use lib.Dec.{ltb}
+use borrow.Author.Tests.{lt-ltb, le-ltb, ne_eqb}
 use lib.IntN.{ℤ, pos, negsuc, nat_abs}
 use lib.ListN.{length, length-append}
+use Rattle.std.proofs.lemmas.Bool.{cases_lt}
 use Rattle.io.specs.Digits.{last_digits, IsDigitCount}
 use Rattle.numbers.specs.Tables.{All}
 use Rattle.numbers.proofs.Tables.{all_append}
@@ -27,13 +26,6 @@ more_digits : (fuel n : ℕ) → 10 ≤ n → decimal_in (suc fuel) n ≡ decima
 unfolding decimal_in
 more_digits fuel n h = rw (le-ltb n 10 h)
 
-one_or_more : (n : ℕ) → (n < 10) ⊎ (10 ≤ n)
-one_or_more n = by_test (ltb n 10) refl
-  where
-    by_test : (b : Bool) → ltb n 10 ≡ b → (n < 10) ⊎ (10 ≤ n)
-    by_test true e = inl (ltb-true n 10 e)
-    by_test false e = inr (ltb-false n 10 e)
-
 -- what holds of one digit, and of a digit more, holds of all
 module _
     (P : ℕ → List ℕ → Type 0)
@@ -46,7 +38,7 @@ module _
         ⊎_elim
         (λ s. subst (P n) (sym (last_digit (suc fuel) n s)) (one n s))
         (λ s. subst (P n) (sym (more_digits fuel n s)) (more n _ s (within_fuel fuel (n / 10) (omega arith))))
-        (one_or_more n)
+        (cases_lt n 10)
 
     pub digit_by_digit : (n : ℕ) → P n (decimal n)
     unfolding decimal
@@ -119,7 +111,7 @@ decimal_few n (suc (suc k)) h s =
     (λ more.
     rw (decimal_more n more, length-append)
     (omega (arith, decimal_few (n / 10) (suc k) (omega arith) (omega (arith, pow-suc 10 (suc k))))))
-    (one_or_more n)
+    (cases_lt n 10)
 
 pub numeral_few : (z : ℤ) (k : ℕ) → 1 ≤ k → nat_abs z < 10 ^ k → length (numeral z) ≤ k + 1
 unfolding numeral

@@ -1,13 +1,12 @@
 -- Pieces put one after another: each starts at the place that the one before it answered, and together they are one piece.
 use mathlib.Core.Path.{◌≡◌, refl, sym, ap, ap₂, ◌∙◌, subst}
-use mathlib.Core.Bool.{Bool, true, false}
 use mathlib.Core.List.{List, [], ◌++◌}
+use mathlib.Core.Logic.{⊎_elim}
 use Prim.Native.Nat.{ℕ, ◌+◌, ◌≤◌}
 use native.Mathlib.Omega.{arith}
-use borrow.Author.Tests.{leb-true, leb-false}
-use lib.Dec.{leb}
 use lib.ListN.{length, take, drop, length-append}
 use lib.Seq.{sets, length-sets, take_at}
+use Rattle.std.proofs.lemmas.Bool.{cases_lt}
 use Rattle.numbers.proofs.Buffers.{sets_append, sets_out, sets_front}
 use Rattle.text.specs.Reached.{reached}
 
@@ -20,16 +19,15 @@ unfolding reached
 reached_cut t at a h = omega arith
 
 pub put_after : (t : List ℕ) (at : ℕ) (a b : List ℕ) → sets (sets t at a) (reached t at a) b ≡ sets t at (a ++ b)
-put_after t at a b = by_room (leb (at + length a) (length t)) refl ∙ sym (sets_append t at a b)
-  where
-    by_room : (fits : Bool) → leb (at + length a) (length t) ≡ fits
-        → sets (sets t at a) (reached t at a) b ≡ sets (sets t at a) (at + length a) b
-    by_room true e = rw (reached_fits t at a (leb-true _ _ e))
-    by_room false e =
-        let past = leb-false (at + length a) (length t) e in
-        let size = length-sets t at a in
-        let cut = reached_cut t at a (omega arith) in
-        sets_out (sets t at a) (reached t at a) b (omega arith) ∙ sym (sets_out (sets t at a) (at + length a) b (omega arith))
+put_after t at a b =
+    ⊎_elim
+    (λ past.
+    let size = length-sets t at a in
+    let cut = reached_cut t at a (omega (arith, past)) in
+    sets_out (sets t at a) (reached t at a) b (omega arith) ∙ sym (sets_out (sets t at a) (at + length a) b (omega (arith, past))))
+    (λ fits. rw (reached_fits t at a fits))
+    (cases_lt (length t) (at + length a))
+    ∙ sym (sets_append t at a b)
 
 pub reached_after : (t : List ℕ) (at : ℕ) (a b : List ℕ) → reached (sets t at a) (reached t at a) b ≡ reached t at (a ++ b)
 unfolding reached

@@ -15,14 +15,9 @@ pub fn put(text: &mut [u8], at: usize, piece: &[u8]) -> usize
     if text.len() <= at {
         return text.len();
     }
-    let mut to = at;
-    let mut from: usize = 0;
-    while from < piece.len() && to < text.len() {
-        text[to] = piece[from];
-        to += 1;
-        from += 1;
-    }
-    to
+    let n = piece.len().min(text.len() - at);
+    text[at..at + n].copy_from_slice(&piece[..n]);
+    at + n
 }
 
 // A number from 0 on, in decimal.
@@ -40,9 +35,6 @@ pub fn put_number(text: &mut [u8], at: usize, z: i64) -> usize
     ensures value { result ≡ reached text.old at (numeral z) }
     ensures text_after { text.new ≡ sets text.old at (numeral z) }
 {
-    if z < 0 {
-        let signed = put(text, at, b"-");
-        return put_count(text, signed, words::magnitude(z));
-    }
-    put_count(text, at, words::magnitude(z))
+    let digits = if z < 0 { put(text, at, b"-") } else { at };
+    put_count(text, digits, z.unsigned_abs())
 }

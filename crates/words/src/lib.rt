@@ -10,35 +10,26 @@ ghost use Rattle.words.specs.LittleEndian.{word_of};
 pub fn word(b0: u8, b1: u8, b2: u8, b3: u8) -> u32
     ensures { result ≡ word_of b0 b1 b2 b3 }
 {
-    b0 as u32 + 256 * b1 as u32 + 65536 * b2 as u32 + 16777216 * b3 as u32
+    u32::from_le_bytes([b0, b1, b2, b3])
 }
 
 // The signed number that a word holds.
 pub fn signed(word: u32) -> i32
     ensures { result ≡ to_z w32 word }
 {
-    if word < 2147483648 {
-        return word as i32;
-    }
-    (word as i64 - 4294967296) as i32
+    word.cast_signed()
 }
 
 // The word that holds a signed number.
 pub fn bits(z: i32) -> u32
     ensures { result ≡ of_z w32 z }
 {
-    if z < 0 {
-        return (z as i64 + 4294967296) as u32;
-    }
-    z as u32
+    z.cast_unsigned()
 }
 
 // A number without its sign.
 pub fn magnitude(z: i64) -> u64
     ensures { result ≡ nat_abs z }
 {
-    if z < 0 {
-        return (0 - (z + 1)) as u64 + 1;
-    }
-    z as u64
+    z.unsigned_abs()
 }

@@ -1,23 +1,31 @@
--- Past the end nothing is put. Otherwise the loop ends where the text is full or the piece is put as a whole.
-use mathlib.Core.Path.{◌≡◌, sym, ap, ◌∙◌}
+-- Past the end nothing is put. Otherwise the copy is as long as the piece and the text allow.
+use mathlib.Core.Path.{◌≡◌, refl, sym, ap, ◌∙◌}
 use mathlib.Core.List.{List, []}
-use Prim.Native.Nat.{ℕ, ◌≤◌}
+use mathlib.Core.Logic.{⊎_elim}
+use Prim.Native.Nat.{ℕ, ◌+◌, ◌-◌, ◌≤◌, min}
 use native.Mathlib.Omega.{arith}
-use lib.ListN.{length, drop_of_length-le}
-use Rattle.numbers.proofs.Buffers.{stored_all, sets_out}
+use lib.ListN.{length, take, drop, take-append-drop, drop_of_length-le}
+use lib.Seq.{sets, sets-eq, paste, length-sets, length-take-le}
+use Rattle.std.proofs.Common.{rules}
+use Rattle.std.proofs.lemmas.Bool.{cases_lt}
+use Rattle.std.proofs.lemmas.Slice.{overwrites}
+use Rattle.numbers.proofs.Buffers.{sets_append, sets_out}
 use Rattle.text.specs.Reached.{reached}
-use Rattle.text.proofs.Pieces.{Put}
 use Rattle.text.proofs.put.Goals as goal
-use Rattle.text.proofs.put.Invariants.{Filling}
 
-module _ {l k all : List ℕ} {n m : ℕ} where
-  text_full : {rest : List ℕ} → Filling l n rest k m all → length l ≤ n → Put k m all n l
-  unfolding reached
-  text_full {rest} f h = (omega (arith, f.ahead.count), sym (sets_out l n rest h) ∙ f.ahead.list)
-
-  piece_whole : {rest : List ℕ} → Filling l n rest k m all → rest ≡ [] → Put k m all n l
-  unfolding reached
-  piece_whole f e = (omega (arith, f.ahead.count, ap length e), stored_all e f.ahead)
+-- a piece is stored as far as the text reaches
+sets_cut : (t : List ℕ) (at : ℕ) (a : List ℕ) (n : ℕ) → at ≤ length t → n ≡ min (length a) (length t - at) → sets t at a ≡ paste t at a n
+sets_cut t at a n h e =
+    let size = length-take-le n a (omega (arith, e)) in
+    let part : sets t at (take n a) ≡ paste t at a n = rw size at (sets-eq (take n a) t at (omega (arith, size))) in
+    ap (λ piece. sets t at piece) (sym (take-append-drop n a)) ∙ sets_append t at (take n a) (drop n a) ∙ rest size ∙ part
+  where
+    rest : length (take n a) ≡ n → sets (sets t at (take n a)) (at + length (take n a)) (drop n a) ≡ sets t at (take n a)
+    rest size =
+        ⊎_elim
+        (λ short. sets_out _ _ (drop n a) (omega (arith, short, size, e, length-sets t at (take n a))))
+        (λ whole. let none : drop n a ≡ [] = drop_of_length-le a whole in rw none refl)
+        (cases_lt n (length a))
 
 pub returns-then-text-at : goal.returns-then-text-at
 unfolding reached
@@ -25,12 +33,12 @@ returns-then-text-at c =
     let a = c.args in
     record { value = omega (arith, c.if-text-at.true); text_after = sym (sets_out a.text.now a.at a.piece.now c.if-text-at.true) }
 
-pub returns-else-to-text : goal.returns-else-to-text
-returns-else-to-text c =
-    let both = text_full c.loop-from.invariant c.if-to-text.false in
-    record { value = both.0; text_after = both.1 }
-
-pub returns-after-loop-from : goal.returns-after-loop-from
-returns-after-loop-from c =
-    let both = piece_whole c.loop-from.invariant (drop_of_length-le _ c.loop-from-test.false) in
-    record { value = both.0; text_after = both.1 }
+pub returns : goal.returns
+unfolding reached
+returns c =
+    let inside = c.if-text-at.false in
+    let cut = sets_cut c.args.text.now c.args.at c.args.piece.now c.min-n.result (omega (arith, inside)) c.min-n.ensures in
+    record {
+      value = omega (arith, c.min-n.ensures, inside);
+      text_after = search (rules, overwrites, c.copy_from_slice.ensures.after, sym cut);
+    }

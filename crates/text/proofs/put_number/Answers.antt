@@ -9,30 +9,34 @@ use lib.IntN.{ℤ, pos, negsuc, nat_abs}
 use lib.Signed.{lt_z}
 use mir.Facts.{to_z-of_z}
 use Rattle.text.specs.Decimal.{decimal, numeral}
-use Rattle.text.proofs.Pieces.{put_as, put_both}
+use Rattle.text.proofs.Pieces.{Put, put_as, put_both}
+use Rattle.text.proofs.put_number.Goals.{then-z-lt0, else-z-lt0}
 use Rattle.text.proofs.put_number.Goals as goal
 
--- z is read as y, and m is its magnitude
-below_zero : {y z : ℤ} {m : ℕ} → y ≡ z → m ≡ nat_abs y → lt_z y (pos 0) ≡ true → 45 ∷ decimal m ≡ numeral z
+-- m is the magnitude of z
+below_zero : (z : ℤ) {m : ℕ} → m ≡ nat_abs z → lt_z z (pos 0) ≡ true → 45 ∷ decimal m ≡ numeral z
 unfolding numeral
-below_zero {y = pos n} read size t = absurd (omega (arith, ltb-true n 0 t))
-below_zero {y = negsuc n} read size t = ap (λ m. 45 ∷ decimal m) size ∙ ap numeral read
+below_zero (pos n) size t = absurd (omega (arith, ltb-true n 0 t))
+below_zero (negsuc n) size t = ap (λ m. 45 ∷ decimal m) size
 
-from_zero : {y z : ℤ} {m : ℕ} → y ≡ z → m ≡ nat_abs y → lt_z y (pos 0) ≡ false → decimal m ≡ numeral z
+from_zero : (z : ℤ) {m : ℕ} → m ≡ nat_abs z → lt_z z (pos 0) ≡ false → decimal m ≡ numeral z
 unfolding numeral
-from_zero {y = pos n} read size t = ap decimal size ∙ ap numeral read
-from_zero {y = negsuc n} read size t = absurd (true≢false t)
-
-pub returns-then-z-lt0 : goal.returns-then-z-lt0
-returns-then-z-lt0 c =
-    let e = below_zero (to_z-of_z c.ranges.z) c.magnitude.ensures c.if-z-lt0.true in
-    let sign = c.put-signed.ensures in
-    let digits = c.put_count.ensures in
-    let both = put_as _ _ e (put_both _ _ (45 ∷ []) _ (sign.value, sign.text_after) (digits.value, digits.text_after)) in
-    record { value = both.0; text_after = both.1 }
+from_zero (pos n) size t = ap decimal size
+from_zero (negsuc n) size t = absurd (true≢false t)
 
 pub returns : goal.returns
 returns c =
-    let e = from_zero (to_z-of_z c.ranges.z) c.magnitude-2.ensures c.if-z-lt0.false in
-    let both = put_as _ _ e (c.put_count-2.ensures.value, c.put_count-2.ensures.text_after) in
+    let a = c.args in
+    let read = to_z-of_z c.ranges.z in
+    let size = rw read at c.unsigned_abs.ensures.value in
+    let digits : Put c.if-z-lt0.text c.if-z-lt0.digits (decimal c.unsigned_abs.result) c.put_count.result c.put_count.new.text =
+    (c.put_count.ensures.value, c.put_count.ensures.text_after) in
+    let both : Put a.text.now a.at (numeral a.z) c.put_count.result c.put_count.new.text =
+    elim c.if-z-lt0.branch [
+      | then-z-lt0 w ↦
+          let sign = w.put-digits.ensures in
+          let e = below_zero a.z size (rw read at w.if-z-lt0.true) in
+          put_as _ _ e (put_both _ _ (45 ∷ []) _ (w.digits-is ∙ sign.value, w.text-is ∙ sign.text_after) digits)
+      | else-z-lt0 w ↦ put_as _ _ (from_zero a.z size (rw read at w.if-z-lt0.false)) (rw (w.text-is, w.digits-is) at digits)
+    ] in
     record { value = both.0; text_after = both.1 }
