@@ -8,7 +8,8 @@ use lib.ListN.{length, take, drop, length-append}
 use lib.Seq.{sets, length-sets, take_at}
 use Rattle.std.proofs.lemmas.Bool.{cases_lt}
 use Rattle.numbers.proofs.Buffers.{sets_append, sets_out, sets_front}
-use Rattle.text.specs.Reached.{reached}
+use Rattle.text.specs.declared.Text.{Text}
+use Rattle.text.specs.Reached.{reached, Put, Gains}
 
 pub reached_fits : (t : List ℕ) (at : ℕ) (a : List ℕ) → at + length a ≤ length t → reached t at a ≡ at + length a
 unfolding reached
@@ -38,9 +39,7 @@ pub put_whole : (t a : List ℕ) → length a ≤ length t → take (reached t 0
 put_whole t a h =
     rw (reached_fits t 0 a (omega arith), sets_front t a h) (take_at a (drop (length a) t) (0 + length a) (omega arith))
 
--- `piece` is put into text t from place `at` on: text u, up to place i
-abbrev pub Put : List ℕ → ℕ → List ℕ → ℕ → List ℕ → Type 0
-Put t at piece i u = (i ≡ reached t at piece) × (u ≡ sets t at piece)
+-- a piece, and how it is put
 
 module _ (t : List ℕ) (at : ℕ) {u : List ℕ} {i : ℕ} where
   pub put_as : {a b : List ℕ} → a ≡ b → Put t at a i u → Put t at b i u
@@ -51,6 +50,30 @@ module _ (t : List ℕ) (at : ℕ) {u : List ℕ} {i : ℕ} where
     q.0 ∙ ap₂ (λ u i. reached u i b) p.1 p.0 ∙ reached_after t at a b,
     q.1 ∙ ap₂ (λ u i. sets u i b) p.1 p.0 ∙ put_after t at a b,
   )
+
+-- the place answered is inside the text
+pub put_inside : (t : List ℕ) (at : ℕ) (a : List ℕ) {u : List ℕ} {i : ℕ} → Put t at a i u → i ≤ length u
+unfolding reached
+put_inside t at a p = omega (arith, p.0, ap length p.1, length-sets t at a)
+
+-- ---- a text that gains piece after piece
+
+pub gains_none : (t : Text) → t.at ≤ length t.bytes.now → Gains t [] t
+unfolding reached
+gains_none t h = record { put = (omega arith, refl); lent = refl }
+
+pub gains_as : {t u : Text} {a b : List ℕ} → a ≡ b → Gains t a u → Gains t b u
+gains_as e g = record { put = put_as _ _ e g.put; lent = g.lent }
+
+pub gains_both : {t u v : Text} {a b : List ℕ} → Gains t a u → Gains u b v → Gains t (a ++ b) v
+gains_both g h = record { put = put_both _ _ _ _ g.put h.put; lent = h.lent ∙ g.lent }
+
+-- it stands inside its buffer then, whose length stays
+pub gains_inside : {t u : Text} {a : List ℕ} → Gains t a u → u.at ≤ length u.bytes.now
+gains_inside {t} {a = a} g = put_inside t.bytes.now t.at a g.put
+
+pub gains_size : {t u : Text} {a : List ℕ} → Gains t a u → length u.bytes.now ≡ length t.bytes.now
+gains_size {t} {a = a} g = ap length g.put.1 ∙ length-sets t.bytes.now t.at a
 
 -- text t, filled up to place i and with `rest` to come, is text t₀ with `all` to come from place `at` on
 pub record Gathered (t : List ℕ) (i : ℕ) (rest : List ℕ) (t₀ : List ℕ) (at : ℕ) (all : List ℕ) : Type 0 where
@@ -77,8 +100,3 @@ gathered_more {t} {i = i} a rest g p =
 pub gathered_all : {t t₀ : List ℕ} {i at : ℕ} {all : List ℕ} → Gathered t i [] t₀ at all → Put t₀ at all i t
 unfolding reached
 gathered_all {t} {i = i} g = (omega (arith, g.inside) ∙ g.place, g.text)
-
--- the place answered is inside the text
-pub put_inside : (t : List ℕ) (at : ℕ) (a : List ℕ) {u : List ℕ} {i : ℕ} → Put t at a i u → i ≤ length u
-unfolding reached
-put_inside t at a p = omega (arith, p.0, ap length p.1, length-sets t at a)

@@ -1,40 +1,48 @@
-// Text gathered in a lent buffer, piece after piece. Each piece is put from place `at` on, as far as the buffer reaches, and the answer is
-// the place after it.
+// Text gathered in a lent buffer, piece after piece, each where the one before it ended.
 #![tactic(auto)]
 
-ghost use Rattle.std.specs.Prelude.{◌≡◌};
-ghost use Rattle.std.proofs.lemmas.List.Edits.{sets};
 ghost use Rattle.text.specs.Decimal.{decimal, numeral};
-ghost use Rattle.text.specs.Reached.{reached};
+ghost use Rattle.text.specs.Reached.{Gains};
 
-// Bytes as they are.
-pub fn put(text: &mut [u8], at: usize, piece: &[u8]) -> usize
-    ensures value { result ≡ reached text.old at piece.now }
-    ensures text_after { text.new ≡ sets text.old at piece.now }
-{
-    if text.len() <= at {
-        return text.len();
+// A lent buffer, filled up to place `at`. A piece is put from there on, as far as the buffer reaches.
+#[derive(Drop)]
+pub struct Text<'a> {
+    pub bytes: &'a mut [u8],
+    pub at: usize,
+}
+
+impl<'a> Text<'a> {
+    // Bytes as they are.
+    pub fn put(&mut self, piece: &[u8])
+        ensures { Gains self.old piece.now self.new }
+    {
+        let at = self.at;
+        let len = self.bytes.len();
+        if len <= at {
+            self.at = len;
+            return;
+        }
+        let n = piece.len().min(len - at);
+        self.bytes[at..at + n].copy_from_slice(&piece[..n]);
+        self.at = at + n;
     }
-    let n = piece.len().min(text.len() - at);
-    text[at..at + n].copy_from_slice(&piece[..n]);
-    at + n
-}
 
-// A number from 0 on, in decimal.
-pub fn put_count(text: &mut [u8], at: usize, n: u64) -> usize
-    ensures value { result ≡ reached text.old at (decimal n) }
-    ensures text_after { text.new ≡ sets text.old at (decimal n) }
-{
-    let mut digits = [0u8; 20];
-    let k = io::decimal(n, &mut digits);
-    put(text, at, &digits[..k])
-}
+    // A number from 0 on, in decimal.
+    pub fn put_count(&mut self, n: u64)
+        ensures { Gains self.old (decimal n) self.new }
+    {
+        let mut digits = [0u8; 20];
+        let k = io::decimal(n, &mut digits);
+        self.put(&digits[..k]);
+    }
 
-// A whole number, in decimal.
-pub fn put_number(text: &mut [u8], at: usize, z: i64) -> usize
-    ensures value { result ≡ reached text.old at (numeral z) }
-    ensures text_after { text.new ≡ sets text.old at (numeral z) }
-{
-    let digits = if z < 0 { put(text, at, b"-") } else { at };
-    put_count(text, digits, z.unsigned_abs())
+    // A whole number, in decimal.
+    pub fn put_number(&mut self, z: i64)
+        ensures { Gains self.old (numeral z) self.new }
+    {
+        if z < 0 {
+            self.put(b"-");
+        }
+        self.put_count(z.unsigned_abs());
+    }
 }

@@ -11,7 +11,7 @@ use Rattle.std.proofs.lemmas.Bool.{cases_lt}
 use Rattle.std.proofs.lemmas.Slice.{overwrites}
 use Rattle.numbers.proofs.Buffers.{sets_append, sets_out}
 use Rattle.text.specs.Reached.{reached}
-use Rattle.text.proofs.put.Goals as goal
+use Rattle.text.proofs.Text.put.Goals as goal
 
 -- a piece is stored as far as the text reaches
 sets_cut : (t : List ℕ) (at : ℕ) (a : List ℕ) (n : ℕ) → at ≤ length t → n ≡ min (length a) (length t - at) → sets t at a ≡ paste t at a n
@@ -27,18 +27,18 @@ sets_cut t at a n h e =
         (λ whole. let none : drop n a ≡ [] = drop_of_length-le a whole in rw none refl)
         (cases_lt n (length a))
 
-pub returns-then-text-at : goal.returns-then-text-at
+pub returns-then-len-at : goal.returns-then-len-at
 unfolding reached
-returns-then-text-at c =
-    let a = c.args in
-    record { value = omega (arith, c.if-text-at.true); text_after = sym (sets_out a.text.now a.at a.piece.now c.if-text-at.true) }
+returns-then-len-at c =
+    let text = c.args.self.now in
+    record { put = (omega (arith, c.if-len-at.true), sym (sets_out text.bytes.now text.at c.args.piece.now c.if-len-at.true)); lent = refl }
 
 pub returns : goal.returns
 unfolding reached
 returns c =
-    let inside = c.if-text-at.false in
-    let cut = sets_cut c.args.text.now c.args.at c.args.piece.now c.min-n.result (omega (arith, inside)) c.min-n.ensures in
+    let text = c.args.self.now in
+    let cut = sets_cut text.bytes.now text.at c.args.piece.now c.min-n.result (omega (arith, c.if-len-at.false)) c.min-n.ensures in
     record {
-      value = omega (arith, c.min-n.ensures, inside);
-      text_after = search (rules, overwrites, c.copy_from_slice.ensures.after, sym cut);
+      put = (omega (arith, c.min-n.ensures, c.if-len-at.false), search (rules, overwrites, c.copy_from_slice.ensures.after, sym cut));
+      lent = refl;
     }

@@ -1,5 +1,5 @@
 -- Below 0 the sign is put first, and then the digits.
-use mathlib.Core.Path.{◌≡◌, ap, ◌∙◌}
+use mathlib.Core.Path.{◌≡◌, ap}
 use mathlib.Core.Bool.{true, false, true≢false}
 use mathlib.Core.List.{[], ◌∷◌}
 use Prim.Native.Nat.{ℕ}
@@ -9,9 +9,10 @@ use lib.IntN.{ℤ, pos, negsuc, nat_abs}
 use lib.Signed.{lt_z}
 use mir.Facts.{to_z-of_z}
 use Rattle.text.specs.Decimal.{decimal, numeral}
-use Rattle.text.proofs.Pieces.{Put, put_as, put_both}
-use Rattle.text.proofs.put_number.Goals.{then-z-lt0, else-z-lt0}
-use Rattle.text.proofs.put_number.Goals as goal
+use Rattle.text.specs.Reached.{Gains}
+use Rattle.text.proofs.Pieces.{gains_as, gains_both}
+use Rattle.text.proofs.Text.put_number.Goals.{then-z-lt0, else-z-lt0}
+use Rattle.text.proofs.Text.put_number.Goals as goal
 
 -- m is the magnitude of z
 below_zero : (z : ℤ) {m : ℕ} → m ≡ nat_abs z → lt_z z (pos 0) ≡ true → 45 ∷ decimal m ≡ numeral z
@@ -29,14 +30,10 @@ returns c =
     let a = c.args in
     let read = to_z-of_z c.ranges.z in
     let size = rw read at c.unsigned_abs.ensures.value in
-    let digits : Put c.if-z-lt0.text c.if-z-lt0.digits (decimal c.unsigned_abs.result) c.put_count.result c.put_count.new.text =
-    (c.put_count.ensures.value, c.put_count.ensures.text_after) in
-    let both : Put a.text.now a.at (numeral a.z) c.put_count.result c.put_count.new.text =
+    let digits = c.put_count.ensures in
     elim c.if-z-lt0.branch [
       | then-z-lt0 w ↦
-          let sign = w.put-digits.ensures in
-          let e = below_zero a.z size (rw read at w.if-z-lt0.true) in
-          put_as _ _ e (put_both _ _ (45 ∷ []) _ (w.digits-is ∙ sign.value, w.text-is ∙ sign.text_after) digits)
-      | else-z-lt0 w ↦ put_as _ _ (from_zero a.z size (rw read at w.if-z-lt0.false)) (rw (w.text-is, w.digits-is) at digits)
-    ] in
-    record { value = both.0; text_after = both.1 }
+          let sign : Gains a.self.now (45 ∷ []) c.if-z-lt0.self = rw w.self-is w.put.ensures in
+          gains_as (below_zero a.z size (rw read at w.if-z-lt0.true)) (gains_both sign digits)
+      | else-z-lt0 w ↦ gains_as (from_zero a.z size (rw read at w.if-z-lt0.false)) (rw w.self-is at digits)
+    ]
