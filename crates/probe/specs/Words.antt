@@ -11,10 +11,6 @@ use Rattle.coordinate.specs.declared.Registers.{Registers}
 use Rattle.engine.specs.declared.Drawing.{Drawing}
 use Rattle.path.specs.declared.Shape.{Shape}
 
-abbrev pub word_at : List ℕ → ℕ → ℕ
-word_at bytes at =
-    get_or bytes at 0 + 256 * get_or bytes (at + 1) 0 + 65536 * get_or bytes (at + 2) 0 + 16777216 * get_or bytes (at + 3) 0
-
 abbrev pub signed_at : List ℤ → ℕ → ℤ
 signed_at words at = get_or words at (pos 0)
 

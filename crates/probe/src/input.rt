@@ -1,8 +1,8 @@
 // Words of standard input, and what a request's words stand for.
-ghost use Rattle.std.specs.Prelude.{◌≡◌, ◌+◌, ◌*◌, ◌%◌, ◌≤◌, ◌<◌, length};
+ghost use Rattle.std.specs.Prelude.{◌≡◌, ◌+◌, ◌*◌, ◌≤◌, ◌<◌, length};
 ghost use Rattle.rules.specs.declared.Degree.TheVariants as degree;
 ghost use Rattle.rules.specs.Rules.{coordinates};
-ghost use Rattle.probe.specs.Words.{word_at, unsigned_at, control_at, registers_at, drawing_in, is_degree, degree_of, shape_in, limits_at};
+ghost use Rattle.probe.specs.Words.{unsigned_at, control_at, registers_at, drawing_in, is_degree, degree_of, shape_in, limits_at};
 
 use coordinate::{Cubic, Quadratic, Registers};
 use engine::Drawing;
@@ -19,20 +19,11 @@ pub(crate) fn take_words(bytes: &mut [u8], words: &mut [i32]) -> bool
     if io::read_full(STDIN_FILENO, &mut bytes[..size]) < size {
         return false;
     }
-    let mut i: usize = 0;
-    while i < words.len() {
-        let z = words::signed(word_at(bytes, 4 * i));
-        words[i] = z;
-        i += 1;
+    let (fours, _) = bytes.as_chunks::<4>();
+    for (word, four) in words.iter_mut().zip(fours) {
+        *word = i32::from_le_bytes(*four);
     }
     true
-}
-
-pub(crate) fn word_at(bytes: &[u8], at: usize) -> u32
-    requires { at + 4 ≤ length bytes.now }
-    ensures { result ≡ word_at bytes.now at }
-{
-    words::word(bytes[at], bytes[at + 1], bytes[at + 2], bytes[at + 3])
 }
 
 // A word as a number from 0 on.
@@ -40,8 +31,7 @@ pub(crate) fn unsigned_at(words: &[i32], at: usize) -> u32
     requires { at < length words.now }
     ensures { result ≡ unsigned_at words.now at }
 {
-    let z = words[at];
-    words::bits(z)
+    words::bits(words[at])
 }
 
 // One coordinate of the control points, which come point by point: x at 0, y at 1, the width at 2.
@@ -138,33 +128,17 @@ pub(crate) fn limits_at(words: &[i32], at: usize) -> Limits
 
 // The low eight bits of each word.
 pub(crate) fn take_bytes(words: &[i32], bytes: &mut [u8]) {
-    let mut i: usize = 0;
-    while i < words.len() && i < bytes.len() {
-        bytes[i] = low_byte(unsigned_at(words, i));
-        i += 1;
+    for (byte, word) in bytes.iter_mut().zip(words) {
+        *byte = word.to_le_bytes()[0];
     }
-}
-
-fn low_byte(word: u32) -> u8
-    ensures { result ≡ word % 256 }
-{
-    (word % 256) as u8
 }
 
 // ---- what the lent places hold before a call
 
 pub(crate) fn fill_numbers(list: &mut [i32]) {
-    let mut i: usize = 0;
-    while i < list.len() {
-        list[i] = -7;
-        i += 1;
-    }
+    list.fill(-7);
 }
 
 pub(crate) fn fill_bytes(bytes: &mut [u8]) {
-    let mut i: usize = 0;
-    while i < bytes.len() {
-        bytes[i] = 7;
-        i += 1;
-    }
+    bytes.fill(7);
 }

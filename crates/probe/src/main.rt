@@ -27,7 +27,7 @@ mod output;
 ghost use Rattle.std.specs.Prelude.{◌≡◌, ◌≤◌, length};
 
 use answers::answer;
-use input::{take_words, word_at};
+use input::take_words;
 use output::refuse;
 
 const STDIN_FILENO: i32 = 0;
@@ -36,39 +36,22 @@ const STDIN_FILENO: i32 = 0;
 const MOST_WORDS: u32 = 16400;
 
 fn main() {
-    let mut bytes = byte_buffer();
-    let mut words = word_buffer();
-    let mut list = list_buffer();
+    // Four bytes for each argument.
+    let mut bytes = [0u8; 65600];
+    let mut words = [0i32; 16400];
+    let mut list = [0i32; 16384];
     let mut text = io::large_buffer();
     run(&mut bytes, &mut words, &mut list, &mut text);
-}
-
-// Four bytes for each argument.
-fn byte_buffer() -> [u8; 65600]
-    ensures { 65600 ≡ length result }
-{
-    [0; 65600]
-}
-
-fn word_buffer() -> [i32; 16400]
-    ensures { 16400 ≡ length result }
-{
-    [0; 16400]
-}
-
-fn list_buffer() -> [i32; 16384]
-    ensures { 16384 ≡ length result }
-{
-    [0; 16384]
 }
 
 // A proved loop has to end, and nothing says that the input does: no run has so many requests.
 fn run(bytes: &mut [u8], words: &mut [i32], list: &mut [i32], text: &mut [u8])
     requires { (65600 ≤ length bytes.old) × (16400 ≤ length words.old) × (16384 ≤ length list.old) }
 {
-    let mut turns: u64 = 1000000000000;
-    while 0 < turns && request(bytes, words, list, text) {
-        turns -= 1;
+    for _ in 0..1_000_000_000_000_u64 {
+        if !request(bytes, words, list, text) {
+            return;
+        }
     }
 }
 
@@ -85,8 +68,9 @@ fn request(bytes: &mut [u8], words: &mut [i32], list: &mut [i32], text: &mut [u8
         refuse();
         return false;
     }
-    let code = word_at(&head, 0);
-    let count = word_at(&head, 4);
+    let [c0, c1, c2, c3, k0, k1, k2, k3] = head;
+    let code = words::word(c0, c1, c2, c3);
+    let count = words::word(k0, k1, k2, k3);
     if MOST_WORDS < count {
         refuse();
         return true;

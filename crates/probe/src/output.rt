@@ -1,7 +1,4 @@
 // Lines of numbers, gathered in a lent text: it is written out where it is full, and at the end of each line. `at` is how far it is filled.
-ghost use Rattle.std.specs.Prelude.{◌≡◌};
-ghost use Rattle.io.specs.Counts.{IsPrefixLen};
-
 use coordinate::Registers;
 use engine::{Moved, Next, Shown};
 use path::Drawn;
@@ -54,7 +51,7 @@ fn operation_of(next: Next) -> u32 {
 }
 
 pub(crate) fn put_shown(text: &mut [u8], shown: Shown) {
-    let mut at = text::put_number(text, 0, wide(shown.x));
+    let mut at = text::put_number(text, 0, i64::from(shown.x));
     at = put_signed(text, at, shown.y);
     at = put_signed(text, at, shown.width);
     end_line(text, at);
@@ -62,21 +59,16 @@ pub(crate) fn put_shown(text: &mut [u8], shown: Shown) {
 
 pub(crate) fn put_numbers(text: &mut [u8], from: usize, list: &[i32]) {
     let mut at = from;
-    let mut i: usize = 0;
-    while i < list.len() {
-        let z = list[i];
+    for &z in list {
         at = put_signed(text, at, z);
-        i += 1;
     }
     end_line(text, at);
 }
 
 pub(crate) fn put_bytes(text: &mut [u8], from: usize, bytes: &[u8]) {
     let mut at = from;
-    let mut i: usize = 0;
-    while i < bytes.len() {
-        at = put_unsigned(text, at, counted(bytes[i]));
-        i += 1;
+    for &byte in bytes {
+        at = put_unsigned(text, at, u32::from(byte));
     }
     end_line(text, at);
 }
@@ -115,12 +107,12 @@ fn put_registers(text: &mut [u8], from: usize, r: Registers) -> usize {
 
 fn put_signed(text: &mut [u8], at: usize, z: i32) -> usize {
     let free = put_space(text, at);
-    text::put_number(text, free, wide(z))
+    text::put_number(text, free, i64::from(z))
 }
 
 fn put_unsigned(text: &mut [u8], at: usize, n: u32) -> usize {
     let free = put_space(text, at);
-    text::put_count(text, free, n as u64)
+    text::put_count(text, free, u64::from(n))
 }
 
 fn put_space(text: &mut [u8], at: usize) -> usize {
@@ -128,23 +120,11 @@ fn put_space(text: &mut [u8], at: usize) -> usize {
     text::put(text, free, b" ")
 }
 
-fn wide(z: i32) -> i64
-    ensures { result ≡ z }
-{
-    z as i64
-}
-
-fn counted(byte: u8) -> u32
-    ensures { result ≡ byte }
-{
-    byte as u32
-}
-
 // ---- the text
 
 // Where the next piece goes: the text is written out first where little of it is free.
 fn make_room(text: &[u8], at: usize) -> usize {
-    if at < text.len() && FREE <= text.len() - at {
+    if FREE <= text.len().saturating_sub(at) {
         return at;
     }
     write_out(text, at);
@@ -152,15 +132,5 @@ fn make_room(text: &[u8], at: usize) -> usize {
 }
 
 fn write_out(text: &[u8], at: usize) {
-    let end = within(text, at);
-    io::write_all(STDOUT_FILENO, &text[..end]);
-}
-
-fn within(text: &[u8], at: usize) -> usize
-    ensures { IsPrefixLen result text.now }
-{
-    if text.len() < at {
-        return text.len();
-    }
-    at
+    io::write_all(STDOUT_FILENO, &text[..at.min(text.len())]);
 }
