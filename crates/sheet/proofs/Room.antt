@@ -6,9 +6,11 @@ use borrow.Author.Tests.{leb-true, le-leb, lt-leb}
 use lib.Dec.{leb}
 use lib.ListN.{length, take, drop}
 use lib.Seq.{sets, take-append_seam}
-use Rattle.std.specs.Prelude.{Result, Ok, Err}
+use Rattle.std.specs.Prelude.{Result, Ok, Err, IsErrAnd}
+use Rattle.std.proofs.lemmas.Result.{err_from_is_err_and}
 use Rattle.numbers.proofs.Buffers.{sets_front}
 use Rattle.rules.specs.declared.refused.Refusal.{Refusal}
+use Rattle.rules.specs.Numbered.{number}
 use Rattle.rules.specs.Refusals.{unless, first_of, refusal_or, filled}
 use Rattle.rules.proofs.Numbered.{number_positive, number_determines}
 use Rattle.rules.proofs.Refusals.{rule_kept, first_kept, first_stop, refuses, number_answered, filled_refused}
@@ -74,19 +76,20 @@ Outcome k values buffer answer after =
     let refusal = room_refusal k (length values) (length buffer) in
     (answer ≡ refused_or_wrote refusal (length values)) × (after ≡ filled refusal values buffer)
 
--- r is the number of these tests as they were made, n the count as it was made
-module _ {A : Type 0} {k r : ℕ} {answer : Written} (values buffer : List A) (e : r ≡ k) where
-  pub refused : (r ≡ 0 → ⊥) → answer ≡ refused_by r → Outcome k values buffer answer buffer
-  refused h a =
-      rw (a, sym e, first_stop r _ h) (sym (refused_answer r (length values) h), sym (filled_refused values buffer r h))
+module _ {A : Type 0} {k : ℕ} (values buffer : List A) where
+  -- a refusal that `?` passes up
+  pub refused : (a : Result ℕ Refusal) (r : Refusal) → IsErrAnd a (λ e. e ≡ r) → number r ≡ k → Outcome k values buffer (answered a) buffer
+  refused a r e says =
+      let p = err_from_is_err_and a e in
+      let h : k ≡ 0 → ⊥ = λ z. number_positive r (says ∙ z) in
+      rw (p.1, p.2, says, first_stop k _ h) (sym (refused_answer k (length values) h), sym (filled_refused values buffer k h))
 
-  module _ {n : ℕ} (z : r ≡ 0) (counted : n ≡ length values) where
-    pub without_room : length buffer < n → answer ≡ refused_by 9 → Outcome k values buffer answer buffer
-    without_room h a = let less = rw counted at h in rw (a, sym e ∙ z, lt-leb _ _ less) (refl, refl)
+  module _ {n : ℕ} (z : k ≡ 0) (counted : n ≡ length values) where
+    pub without_room : length buffer < n → Outcome k values buffer (refused_by 9) buffer
+    without_room h = let less = rw counted at h in rw (z, lt-leb _ _ less) (refl, refl)
 
-    pub with_room : {after : List A} → n ≤ length buffer → answer ≡ wrote n → after ≡ sets buffer 0 values
-        → Outcome k values buffer answer after
-    with_room h a stored =
+    pub with_room : {after : List A} → n ≤ length buffer → after ≡ sets buffer 0 values → Outcome k values buffer (wrote n) after
+    with_room h stored =
         let fits = rw counted at h in
-        let enough = room_enough {found = values} buffer (sym e ∙ z) refl fits in
-        (a ∙ rw counted (sym enough.0), stored ∙ sets_front buffer values fits ∙ sym enough.1)
+        let enough = room_enough {found = values} buffer z refl fits in
+        (rw counted (sym enough.0), stored ∙ sets_front buffer values fits ∙ sym enough.1)

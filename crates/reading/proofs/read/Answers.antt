@@ -17,29 +17,27 @@ use Rattle.reading.proofs.read.Goals as goal
 abbrev values : List ℕ → List ℤ
 values b = sheet_numbers (sheet_at b)
 
-pub returns-then-refusal-ne0 : goal.returns-then-refusal-ne0
+pub returns-in_err-check_sheet : goal.returns-in_err-check_sheet
 unfolding read_answer numbers_read read_refusal
-returns-then-refusal-ne0 c =
-    let both = refused (values c.args.sheet.now) _ c.sheet_refusal-refusal.ensures c.if-refusal-ne0.true c.refuse.ensures in
+returns-in_err-check_sheet c =
+    let both = refused (values c.args.sheet.now) _ c.from_residual.result _ c.from_residual.ensures.1 c.in_err-check_sheet.ensures in
     record { answer = both.0; list_after = both.1 }
 
 pub returns-then-numbers-count : goal.returns-then-numbers-count
 unfolding read_answer numbers_read read_refusal
 returns-then-numbers-count c =
-    let both =
-    without_room (values c.args.sheet.now) _ c.sheet_refusal-refusal.ensures c.if-refusal-ne0.false c.number_count-count.ensures
-    c.if-numbers-count.true c.refuse-then-numbers-count.ensures in
+    let both = without_room (values c.args.sheet.now) _ (sym c.in_ok-check_sheet.ensures) c.number_count-count.ensures c.if-numbers-count.true in
     record { answer = both.0; list_after = both.1 }
 
 pub overflow_cast-result : goal.overflow_cast-result
 overflow_cast-result c =
-    let kept = sym c.sheet_refusal-refusal.ensures ∙ c.if-refusal-ne0.false in
+    let kept = sym c.in_ok-check_sheet.ensures in
     omega (arith, c.number_count-count.ensures, numbers_count _ kept, (headed _ kept).most)
 
 pub returns : goal.returns
 unfolding read_answer numbers_read read_refusal
 returns c =
     let both =
-    with_room (values c.args.sheet.now) _ c.sheet_refusal-refusal.ensures c.if-refusal-ne0.false c.number_count-count.ensures
-    c.if-numbers-count.false refl c.fill_numbers.ensures in
+    with_room (values c.args.sheet.now) _ (sym c.in_ok-check_sheet.ensures) c.number_count-count.ensures c.if-numbers-count.false
+    c.fill_numbers.ensures in
     record { answer = both.0; list_after = both.1 }

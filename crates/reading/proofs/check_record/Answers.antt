@@ -4,8 +4,8 @@ use borrow.Author.Tests.{eq-eqb, ne_eqb}
 use Rattle.sheet.specs.Bytes.{u32_at}
 use Rattle.sheet.specs.Sheet.{head_size}
 use Rattle.sheet.specs.Reading.{is_offset, record_refusal}
-use Rattle.reading.proofs.record_refusal.Goals as goal
-use Rattle.reading.proofs.record_refusal.Goals.{After-u32_at-offset}
+use Rattle.reading.proofs.check_record.Goals as goal
+use Rattle.reading.proofs.check_record.Goals.{After-u32_at-offset}
 
 -- what was read is offset k
 offset : (c : After-u32_at-offset) → c.u32_at-offset.result ≡ u32_at c.args.sheet.now (head_size c.args.k)
@@ -19,4 +19,4 @@ returns-then-offset-at c =
 
 pub returns : goal.returns
 unfolding record_refusal is_offset
-returns c = rw (eq-eqb _ _ (sym (offset (goal.at.returns c).After-u32_at-offset) ∙ c.if-offset-at.false)) c.body_refusal.ensures
+returns c = rw (eq-eqb _ _ (sym (offset (goal.at.returns c).After-u32_at-offset) ∙ c.if-offset-at.false)) c.check_body.ensures

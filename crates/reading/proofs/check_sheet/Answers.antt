@@ -9,8 +9,8 @@ use Rattle.rules.specs.Rules.{are_limits}
 use Rattle.sheet.specs.Bytes.{u32_at}
 use Rattle.sheet.specs.Sheet.{least_bytes, most_bytes, most_paths, head_size}
 use Rattle.sheet.specs.Reading.{records_refusal, sheet_refusal}
-use Rattle.reading.proofs.sheet_refusal.Goals as goal
-use Rattle.reading.proofs.sheet_refusal.Goals.{Else-sheet-lt-LEAST_BYTES, Else-sheet-gt-MOST_BYTES, Else-paths-gt-MOST_PATHS, Else-sheet-head_size, After-lawful}
+use Rattle.reading.proofs.check_sheet.Goals as goal
+use Rattle.reading.proofs.check_sheet.Goals.{Else-sheet-lt-LEAST_BYTES, Else-sheet-gt-MOST_BYTES, Else-paths-gt-MOST_PATHS, Else-sheet-head_size, After-lawful}
 
 pub returns-then-sheet-lt-LEAST_BYTES : goal.returns-then-sheet-lt-LEAST_BYTES
 unfolding sheet_refusal
@@ -82,4 +82,4 @@ returns c =
       table at.Else-sheet-head_size,
       limits_asked at.After-lawful ∙ c.if-not-lawful.false,
     )
-    (c.records_refusal.ensures ∙ ap (λ (n : ℕ). records_refusal c.args.sheet.now n 0 (head_size n)) c.u32_at-paths.ensures)
+    (c.check_records.ensures ∙ ap (λ (n : ℕ). records_refusal c.args.sheet.now n 0 (head_size n)) c.u32_at-paths.ensures)

@@ -12,6 +12,8 @@ use lib.Seq.{sets, take_at, length-take-le}
 use Rattle.numbers.proofs.Buffers.{sets_front}
 use Rattle.rules.specs.declared.Marked.{Marked}
 use Rattle.rules.specs.Rules.{sheet_finest, head_refusal, points_refusal}
+use Rattle.std.proofs.lemmas.Result.{err_from_is_err_and}
+use Rattle.rules.proofs.Numbered.{number_positive}
 use Rattle.rules.proofs.Laws.{few_numbers}
 use Rattle.rules.proofs.Order.{head_kept}
 use Rattle.sheet.specs.Bytes.{u16_at, values_at}
@@ -20,8 +22,8 @@ use Rattle.sheet.specs.Records.{record_mark, record_point_numbers, record_at}
 use Rattle.sheet.specs.Reading.{body_refusal}
 use Rattle.sheet.proofs.Bytes.{values_length}
 use Rattle.sheet.proofs.PathRules.{refuses_no_head, refuses_by_head, refuses_cut, refuses_by_points}
-use Rattle.reading.proofs.body_refusal.Goals as goal
-use Rattle.reading.proofs.body_refusal.Goals.{Else-sheet-at, After-record_point_numbers-n, After-take_values}
+use Rattle.reading.proofs.check_body.Goals as goal
+use Rattle.reading.proofs.check_body.Goals.{Else-sheet-at, After-record_point_numbers-n, After-take_values}
 
 pub returns-then-sheet-at : goal.returns-then-sheet-at
 unfolding body_refusal
@@ -37,17 +39,17 @@ head_asked : (b : List ℕ) (at : ℕ) {r S : ℕ} {m : Marked} → r ≡ head_r
     → r ≡ head_refusal sheet_finest (u16_at b at) (record_mark b at).level
 head_asked b at e s m = e ∙ ap₂ (λ (S : ℕ) (m : Marked). head_refusal sheet_finest S m.level) s m
 
-pub returns-then-refusal-ne0 : goal.returns-then-refusal-ne0
+pub returns-in_err-check_head : goal.returns-in_err-check_head
 unfolding body_refusal record_at
-returns-then-refusal-ne0 c =
-    let asked = head_asked c.args.sheet.now c.args.at c.head_refusal-refusal.ensures c.u16_at.ensures.value c.record_mark-marked.ensures in
-    asked ∙ sym (refuses_by_head 15 _ _ _ (begins (goal.at.returns-then-refusal-ne0 c).Else-sheet-at) (λ z. c.if-refusal-ne0.true (asked ∙ z)))
+returns-in_err-check_head c =
+    let asked = head_asked c.args.sheet.now c.args.at c.in_err-check_head.ensures c.u16_at.ensures.value c.record_mark-marked.ensures in
+    let began = begins (goal.at.returns-in_err-check_head c).Else-sheet-at in
+    let p = err_from_is_err_and c.from_residual.result c.from_residual.ensures.1 in
+    rw (p.1, p.2) (asked ∙ sym (refuses_by_head 15 _ _ _ began (λ z. number_positive _ (asked ∙ z))))
 
 head : (c : After-record_point_numbers-n)
     → head_refusal sheet_finest (u16_at c.args.sheet.now c.args.at) (record_mark c.args.sheet.now c.args.at).level ≡ 0
-head c =
-    sym (head_asked c.args.sheet.now c.args.at c.head_refusal-refusal.ensures c.u16_at.ensures.value c.record_mark-marked.ensures)
-    ∙ c.if-refusal-ne0.false
+head c = sym (head_asked c.args.sheet.now c.args.at c.in_ok-check_head.ensures c.u16_at.ensures.value c.record_mark-marked.ensures)
 
 -- ---- how many numbers the points have
 
@@ -72,9 +74,9 @@ take_values-requires c =
 pub slice_bounds-points-end : goal.slice_bounds-points-end
 slice_bounds-points-end c = omega (arith, few (goal.at.slice_bounds-points-end c).After-record_point_numbers-n)
 
-pub slice_bounds-points_refusal-end : goal.slice_bounds-points_refusal-end
-slice_bounds-points_refusal-end c =
-    sym (length-take-le _ _ (omega (arith, few (goal.at.slice_bounds-points_refusal-end c).After-record_point_numbers-n)))
+pub slice_bounds-check_points-end : goal.slice_bounds-check_points-end
+slice_bounds-check_points-end c =
+    sym (length-take-le _ _ (omega (arith, few (goal.at.slice_bounds-check_points-end c).After-record_point_numbers-n)))
 
 -- the front of a buffer is what was stored there
 front : (l k vs : List ℤ) (n : ℕ) → length vs ≡ n → n ≤ length l → k ≡ sets l 0 vs → take n k ≡ vs
@@ -95,6 +97,6 @@ returns c =
     let numbered = at.After-record_point_numbers-n in
     let ends = le-leb _ _ (rw c.record_point_numbers-n.ensures at c.if-sheet-at-2.false) in
     let mark = c.record_mark-marked.ensures in
-    c.points_refusal.ensures
+    c.check_points.ensures
     ∙ ap₂ points_refusal (c.reach.ensures ∙ ap (λ (m : Marked). sheet_reach m.degree) mark) (points at.After-take_values (few numbered))
     ∙ sym (refuses_by_points 15 _ _ _ (begins at.Else-sheet-at) (head numbered) ends)
