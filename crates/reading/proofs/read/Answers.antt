@@ -1,5 +1,5 @@
 -- The refusal of the sheet decides, then the room, and then the numbers fill the list.
-use mathlib.Core.Path.{refl, sym, ◌∙◌}
+use mathlib.Core.Path.{sym}
 use mathlib.Core.List.{List}
 use Prim.Native.Nat.{ℕ}
 use native.Mathlib.Omega.{arith}
