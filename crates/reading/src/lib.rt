@@ -30,6 +30,7 @@ pub fn read(sheet: &[u8], numbers: &mut [i32]) -> Result<u32, Refusal>
 
 // ---- its refusals
 
+#[tactic(auto, unfolding(sheet::specs::Reading::sheet_refusal))]
 fn check_sheet(sheet: &[u8]) -> Result<(), Refusal>
     ensures { refusal_of result ≡ sheet_refusal sheet.now }
 {
@@ -72,6 +73,7 @@ fn check_records(sheet: &[u8], paths: u32) -> Result<(), Refusal>
     Ok(())
 }
 
+#[tactic(auto, unfolding(sheet::specs::Reading::record_refusal, sheet::specs::Reading::is_offset))]
 fn check_record(sheet: &[u8], k: u32, at: usize) -> Result<(), Refusal>
     requires { (k < most_paths) × (head_size (k + 1) ≤ length sheet.now) × (at ≤ length sheet.now) × (length sheet.now ≤ most_bytes) }
     ensures { refusal_of result ≡ record_refusal sheet.now k at }

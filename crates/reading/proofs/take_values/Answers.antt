@@ -18,7 +18,7 @@ turn : (b : List ℕ) (l k : List ℤ) (p at n : ℕ) {v : ℤ} → k ≡ sets l
     → set k (at + n) v ≡ sets l at (values_at b p (n + 1))
 unfolding values_at
 turn b l k p at n s e =
-    rw (s, e, values_add b p n 1, sets_append l at (values_at b p n) (i16_at b (p + value_size * n) ∷ []), values_length b p n) refl
+    rw (s, e, values_add b p n 1, sets_append l at (values_at b p n) (i16_at b (p + value_size * n) ∷ []), values_length b p n)
 
 pub loop-i-init : goal.loop-i-init
 unfolding values_at
