@@ -85,6 +85,7 @@ fn check_record(sheet: &[u8], k: u32, at: usize) -> Result<(), Refusal>
     check_body(sheet, at)
 }
 
+#[tactic(auto, unfolding(sheet::specs::Reading::body_refusal, sheet::specs::Records::record_at, sheet::specs::PathRules::path_rules))]
 fn check_body(sheet: &[u8], at: usize) -> Result<(), Refusal>
     requires { (at ≤ length sheet.now) × (length sheet.now ≤ most_bytes) }
     ensures { refusal_of result ≡ body_refusal sheet.now at }

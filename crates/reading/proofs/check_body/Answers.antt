@@ -1,10 +1,10 @@
--- Each return is one line of the table `path_rules`, by the tests that led there.
+-- The points that are taken fit their buffer, and are the record's.
 use mathlib.Core.Path.{◌≡◌, sym, ap, ap₂, ◌∙◌}
 use mathlib.Core.Bool.{true}
 use mathlib.Core.List.{List}
 use Prim.Native.Nat.{ℕ, ◌+◌, ◌≤◌}
 use native.Mathlib.Omega.{arith}
-use borrow.Author.Tests.{le-leb, lt-leb}
+use borrow.Author.Tests.{le-leb}
 use lib.Dec.{leb}
 use lib.IntN.{ℤ}
 use lib.ListN.{length, take}
@@ -12,8 +12,6 @@ use lib.Seq.{sets, take_at, length-take-le}
 use Rattle.numbers.proofs.Buffers.{sets_front}
 use Rattle.rules.specs.declared.Marked.{Marked}
 use Rattle.rules.specs.Rules.{sheet_finest, head_refusal, points_refusal}
-use Rattle.std.proofs.lemmas.Result.{err_from_is_err_and}
-use Rattle.rules.proofs.Numbered.{number_positive}
 use Rattle.rules.proofs.Laws.{few_numbers}
 use Rattle.rules.proofs.Order.{head_kept}
 use Rattle.sheet.specs.Bytes.{u16_at, values_at}
@@ -21,49 +19,23 @@ use Rattle.sheet.specs.Sheet.{record_head, sheet_reach}
 use Rattle.sheet.specs.Records.{record_mark, record_point_numbers, record_at}
 use Rattle.sheet.specs.Reading.{body_refusal}
 use Rattle.sheet.proofs.Bytes.{values_length}
-use Rattle.sheet.proofs.PathRules.{refuses_no_head, refuses_by_head, refuses_cut, refuses_by_points}
+use Rattle.sheet.proofs.PathRules.{refuses_by_points}
 use Rattle.reading.proofs.check_body.Goals as goal
 use Rattle.reading.proofs.check_body.Goals.{Else-sheet-at, After-record_point_numbers-n, After-take_values}
-
-pub returns-then-sheet-at : goal.returns-then-sheet-at
-unfolding body_refusal
-returns-then-sheet-at c = sym (refuses_no_head 15 _ _ _ (lt-leb _ _ c.if-sheet-at.true))
 
 begins : (c : Else-sheet-at) → leb (c.args.at + record_head) (length c.args.sheet.now) ≡ true
 begins c = le-leb _ _ c.if-sheet-at.false
 
--- ---- the segments and the mark
-
--- they were read at the record's place
-head_asked : (b : List ℕ) (at : ℕ) {r S : ℕ} {m : Marked} → r ≡ head_refusal sheet_finest S m.level → S ≡ u16_at b at → m ≡ record_mark b at
-    → r ≡ head_refusal sheet_finest (u16_at b at) (record_mark b at).level
-head_asked b at e s m = e ∙ ap₂ (λ (S : ℕ) (m : Marked). head_refusal sheet_finest S m.level) s m
-
-pub returns-in_err-check_head : goal.returns-in_err-check_head
-unfolding body_refusal record_at
-returns-in_err-check_head c =
-    let asked = head_asked c.args.sheet.now c.args.at c.in_err-check_head.ensures c.u16_at.ensures.value c.record_mark-marked.ensures in
-    let began = begins (goal.at.returns-in_err-check_head c).Else-sheet-at in
-    let p = err_from_is_err_and c.from_residual.result c.from_residual.ensures.1 in
-    rw (p.1, p.2) (asked ∙ sym (refuses_by_head 15 _ _ _ began (λ z. number_positive _ (asked ∙ z))))
+-- ---- the segments and the mark: with them the points have few numbers
 
 head : (c : After-record_point_numbers-n)
     → head_refusal sheet_finest (u16_at c.args.sheet.now c.args.at) (record_mark c.args.sheet.now c.args.at).level ≡ 0
-head c = sym (head_asked c.args.sheet.now c.args.at c.in_ok-check_head.ensures c.u16_at.ensures.value c.record_mark-marked.ensures)
-
--- ---- how many numbers the points have
+head c = rw (← c.u16_at.ensures.value, ← c.record_mark-marked.ensures) (sym c.in_ok-check_head.ensures)
 
 few : (c : After-record_point_numbers-n) → c.record_point_numbers-n.result ≤ 579
 few c =
     let D = (record_mark c.args.sheet.now c.args.at).degree in
     rw c.record_point_numbers-n.ensures (few_numbers D _ (head_kept sheet_finest _ _ (head c)).0)
-
-pub returns-then-sheet-at-2 : goal.returns-then-sheet-at-2
-unfolding body_refusal record_at
-returns-then-sheet-at-2 c =
-    let at = goal.at.returns-then-sheet-at-2 c in
-    let cut = lt-leb _ _ (rw c.record_point_numbers-n.ensures at c.if-sheet-at-2.true) in
-    sym (refuses_cut 15 _ _ _ (begins at.Else-sheet-at) (head at.After-record_point_numbers-n) cut)
 
 -- ---- the points
 
