@@ -15,6 +15,7 @@ use sheet::{LEAST_BYTES, LIST_HEAD, MOST_BYTES, MOST_PATHS, RECORD_HEAD, VALUE_S
 
 // Reads a sheet's number list into the front of `numbers` and answers how many they are. Refuses 11, 12, 4; per record 13, 15, 14, 3, 15,
 // 1, 2; 16, 9, with `numbers` as they were.
+#[tactic(auto, using(numbers::proofs::Buffers::sets_front), unfolding(sheet::specs::Answer::read_answer, sheet::specs::Answer::numbers_read, sheet::specs::Reading::read_refusal))]
 pub fn read(sheet: &[u8], numbers: &mut [i32]) -> Result<u32, Refusal>
     ensures answer { answered result ≡ read_answer sheet.now (length numbers.old) }
     ensures list_after { numbers.new ≡ numbers_read sheet.now numbers.old }
