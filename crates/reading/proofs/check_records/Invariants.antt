@@ -3,13 +3,9 @@ use Prim.Native.Nat.{◌-◌, ◌≤◌}
 use lib.ListN.{length}
 use Rattle.sheet.specs.Sheet.{head_size}
 use Rattle.sheet.specs.Reading.{records_refusal}
-use Rattle.reading.proofs.records_refusal.Given as goal
+use Rattle.reading.proofs.check_records.Given as goal
 
 abbrev pub invariant-loop-k : goal.invariant-loop-k
 invariant-loop-k l =
-    (l.k ≤ l.paths)
-    × (l.at ≤ length l.sheet)
+    (l.at ≤ length l.sheet)
     × (records_refusal l.sheet (l.paths - l.k) l.k l.at ≡ records_refusal l.sheet l.paths 0 (head_size l.paths))
-
-abbrev pub decreases-loop-k : goal.decreases-loop-k
-decreases-loop-k l = l.paths - l.k

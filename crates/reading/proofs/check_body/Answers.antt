@@ -1,10 +1,10 @@
--- Each return is one line of the table `path_rules`, by the tests that led there.
+-- The points that are taken fit their buffer, and are the record's.
 use mathlib.Core.Path.{◌≡◌, sym, ap, ap₂, ◌∙◌}
 use mathlib.Core.Bool.{true}
 use mathlib.Core.List.{List}
 use Prim.Native.Nat.{ℕ, ◌+◌, ◌≤◌}
 use native.Mathlib.Omega.{arith}
-use borrow.Author.Tests.{le-leb, lt-leb}
+use borrow.Author.Tests.{le-leb}
 use lib.Dec.{leb}
 use lib.IntN.{ℤ}
 use lib.ListN.{length, take}
@@ -19,49 +19,23 @@ use Rattle.sheet.specs.Sheet.{record_head, sheet_reach}
 use Rattle.sheet.specs.Records.{record_mark, record_point_numbers, record_at}
 use Rattle.sheet.specs.Reading.{body_refusal}
 use Rattle.sheet.proofs.Bytes.{values_length}
-use Rattle.sheet.proofs.PathRules.{refuses_no_head, refuses_by_head, refuses_cut, refuses_by_points}
-use Rattle.reading.proofs.body_refusal.Goals as goal
-use Rattle.reading.proofs.body_refusal.Goals.{Else-sheet-at, After-record_point_numbers-n, After-take_values}
-
-pub returns-then-sheet-at : goal.returns-then-sheet-at
-unfolding body_refusal
-returns-then-sheet-at c = sym (refuses_no_head 15 _ _ _ (lt-leb _ _ c.if-sheet-at.true))
+use Rattle.sheet.proofs.PathRules.{refuses_by_points}
+use Rattle.reading.proofs.check_body.Goals as goal
+use Rattle.reading.proofs.check_body.Goals.{Else-sheet-at, After-record_point_numbers-n, After-take_values}
 
 begins : (c : Else-sheet-at) → leb (c.args.at + record_head) (length c.args.sheet.now) ≡ true
 begins c = le-leb _ _ c.if-sheet-at.false
 
--- ---- the segments and the mark
-
--- they were read at the record's place
-head_asked : (b : List ℕ) (at : ℕ) {r S : ℕ} {m : Marked} → r ≡ head_refusal sheet_finest S m.level → S ≡ u16_at b at → m ≡ record_mark b at
-    → r ≡ head_refusal sheet_finest (u16_at b at) (record_mark b at).level
-head_asked b at e s m = e ∙ ap₂ (λ (S : ℕ) (m : Marked). head_refusal sheet_finest S m.level) s m
-
-pub returns-then-refusal-ne0 : goal.returns-then-refusal-ne0
-unfolding body_refusal record_at
-returns-then-refusal-ne0 c =
-    let asked = head_asked c.args.sheet.now c.args.at c.head_refusal-refusal.ensures c.u16_at.ensures.value c.record_mark-marked.ensures in
-    asked ∙ sym (refuses_by_head 15 _ _ _ (begins (goal.at.returns-then-refusal-ne0 c).Else-sheet-at) (λ z. c.if-refusal-ne0.true (asked ∙ z)))
+-- ---- the segments and the mark: with them the points have few numbers
 
 head : (c : After-record_point_numbers-n)
     → head_refusal sheet_finest (u16_at c.args.sheet.now c.args.at) (record_mark c.args.sheet.now c.args.at).level ≡ 0
-head c =
-    sym (head_asked c.args.sheet.now c.args.at c.head_refusal-refusal.ensures c.u16_at.ensures.value c.record_mark-marked.ensures)
-    ∙ c.if-refusal-ne0.false
-
--- ---- how many numbers the points have
+head c = rw (← c.u16_at.ensures.value, ← c.record_mark-marked.ensures) (sym c.in_ok-check_head.ensures)
 
 few : (c : After-record_point_numbers-n) → c.record_point_numbers-n.result ≤ 579
 few c =
     let D = (record_mark c.args.sheet.now c.args.at).degree in
     rw c.record_point_numbers-n.ensures (few_numbers D _ (head_kept sheet_finest _ _ (head c)).0)
-
-pub returns-then-sheet-at-2 : goal.returns-then-sheet-at-2
-unfolding body_refusal record_at
-returns-then-sheet-at-2 c =
-    let at = goal.at.returns-then-sheet-at-2 c in
-    let cut = lt-leb _ _ (rw c.record_point_numbers-n.ensures at c.if-sheet-at-2.true) in
-    sym (refuses_cut 15 _ _ _ (begins at.Else-sheet-at) (head at.After-record_point_numbers-n) cut)
 
 -- ---- the points
 
@@ -72,9 +46,9 @@ take_values-requires c =
 pub slice_bounds-points-end : goal.slice_bounds-points-end
 slice_bounds-points-end c = omega (arith, few (goal.at.slice_bounds-points-end c).After-record_point_numbers-n)
 
-pub slice_bounds-points_refusal-end : goal.slice_bounds-points_refusal-end
-slice_bounds-points_refusal-end c =
-    sym (length-take-le _ _ (omega (arith, few (goal.at.slice_bounds-points_refusal-end c).After-record_point_numbers-n)))
+pub slice_bounds-check_points-end : goal.slice_bounds-check_points-end
+slice_bounds-check_points-end c =
+    sym (length-take-le _ _ (omega (arith, few (goal.at.slice_bounds-check_points-end c).After-record_point_numbers-n)))
 
 -- the front of a buffer is what was stored there
 front : (l k vs : List ℤ) (n : ℕ) → length vs ≡ n → n ≤ length l → k ≡ sets l 0 vs → take n k ≡ vs
@@ -95,6 +69,6 @@ returns c =
     let numbered = at.After-record_point_numbers-n in
     let ends = le-leb _ _ (rw c.record_point_numbers-n.ensures at c.if-sheet-at-2.false) in
     let mark = c.record_mark-marked.ensures in
-    c.points_refusal.ensures
+    c.check_points.ensures
     ∙ ap₂ points_refusal (c.reach.ensures ∙ ap (λ (m : Marked). sheet_reach m.degree) mark) (points at.After-take_values (few numbered))
     ∙ sym (refuses_by_points 15 _ _ _ (begins at.Else-sheet-at) (head numbered) ends)
