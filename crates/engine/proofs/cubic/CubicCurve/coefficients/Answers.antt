@@ -1,5 +1,5 @@
 -- Every sum and product fits 64 bits; they are the coefficients by `by-differences`.
-use mathlib.Core.Path.{◌≡◌, ◌∙◌}
+use mathlib.Core.Path.{◌∙◌}
 use lib.IntN.{◌+ℤ◌, ◌-ℤ◌, ◌*ℤ◌, pos}
 use mir.Syntax.{w64}
 use Rattle.numbers.proofs.Machine.{Num, literal, local, plus, minus, times, fits}
