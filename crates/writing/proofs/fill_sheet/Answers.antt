@@ -4,8 +4,9 @@ use mathlib.Core.List.{List}
 use Prim.Native.Nat.{ℕ, ◌+◌, ◌-◌, ◌*◌, ◌≤◌}
 use native.Mathlib.Omega.{arith}
 use lib.IntN.{ℤ}
-use lib.ListN.{length, drop}
+use lib.ListN.{length, take, drop, length-drop}
 use lib.Seq.{sets}
+use Rattle.std.proofs.lemmas.Slice.{between_to_end}
 use Rattle.numbers.proofs.Buffers.{sets_append}
 use Rattle.sheet.specs.Bytes.{value_size, le32, value_bytes}
 use Rattle.sheet.specs.Sheet.{least_bytes, most_bytes, list_head, head_size, offsets, sheet_bytes}
@@ -37,6 +38,10 @@ filled : (l : List ℤ) (sheet : List ℕ) → Parted l → {n upper lower p : �
     → s₄ ≡ sets s₃ least_bytes (offsets (head_size n) (paths_at l n list_head)) → s₅ ≡ sets s₄ p (value_bytes (drop list_head l))
     → s₅ ≡ sets sheet 0 (sheet_bytes (sheet_of l))
 filled l sheet parted n upper lower p e₁ e₂ e₃ e₄ e₅ = rw (e₅, e₄, e₃, e₂, e₁, p, n, upper, lower) (runs l sheet parted)
+
+-- the numbers after the first three
+after_head : (l : List ℤ) → take (length l - list_head) (drop list_head l) ≡ drop list_head l
+after_head l = between_to_end l list_head (length l) (omega arith)
 
 -- ---- an accepted list, and a sheet that has room for it
 
@@ -73,16 +78,23 @@ put_offsets-requires c =
       room = omega (arith, room _ _ c.requires.accepted c.requires.room, c.number_at-paths.ensures);
     }
 
+pub slice_bounds-put_values-count : goal.slice_bounds-put_values-count
+slice_bounds-put_values-count c = omega (arith, room _ _ c.requires.accepted c.requires.room)
+
+pub slice_bounds-put_values-start : goal.slice_bounds-put_values-start
+slice_bounds-put_values-start c = omega (arith, room _ _ c.requires.accepted c.requires.room)
+
 pub put_values-requires : goal.put_values-requires
 put_values-requires c =
+    let l = c.args.numbers.now in
     let parted = (listed _ c.requires.accepted).parted in
-    record {
-      short = paths_short c.args.numbers.now _ list_head parted.0 parted.2;
-      room = omega (arith, room _ _ c.requires.accepted c.requires.room, c.number_at-paths.ensures);
-    }
+    rw (after_head l) (record {
+      short = paths_short l _ list_head parted.0 parted.2;
+      room = omega (arith, room _ _ c.requires.accepted c.requires.room, c.number_at-paths.ensures, length-drop list_head l);
+    })
 
 pub returns : goal.returns
 returns c =
     filled c.args.numbers.now _ (listed _ c.requires.accepted).parted
     c.number_at-paths.ensures c.number_at.ensures c.number_at-2.ensures c.head_size.ensures
-    c.put_u32.ensures c.put_u32-2.ensures c.put_u32-3.ensures c.put_offsets.ensures c.put_values.ensures
+    c.put_u32.ensures c.put_u32-2.ensures c.put_u32-3.ensures c.put_offsets.ensures (rw (after_head c.args.numbers.now) at c.put_values.ensures)
