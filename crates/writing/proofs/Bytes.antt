@@ -12,11 +12,13 @@ use mir.Val.{SFits, to_z, of_z}
 use mir.Facts.{to_z-of_z}
 use Rattle.sheet.specs.Bytes.{Short, up, down, le32, bits16}
 
+-- bytes copied into the part of a sheet that begins at `at`
 pub copied_as : (l : List ℕ) (at : ℕ) {found : List ℕ} (bytes : List ℕ) → found ≡ bytes → at + length bytes ≤ length l
     → put_mid at (at + length bytes - at) l found ≡ sets l at bytes
 copied_as l at bytes e h =
     rw (e, Post-is at (at + length bytes) l (omega arith), sets-eq bytes l at h, append_assoc (take at l) bytes (drop (at + length bytes) l))
 
+-- the bytes of `to_le_bytes`
 pub bytes_32 : (n : ℕ) → n % 256 ∷ n / 256 % 256 ∷ n / 65536 % 256 ∷ n / 16777216 % 256 ∷ [] ≡ le32 n
 bytes_32 n =
     let first : n % 65536 % 256 ≡ n % 256 = omega arith in
@@ -24,7 +26,7 @@ bytes_32 n =
     let fourth : n / 65536 / 256 % 256 ≡ n / 16777216 % 256 = omega arith in
     rw (first, second, fourth)
 
--- what is read of a number of sixteen bits, and stored again
+-- a number of sixteen bits, cast to `i16` and its bits taken
 pub bits_16 : {z : ℤ} → Short z → of_z w16 (to_z w16 (of_z w16 (to_z w32 (of_z w32 z)))) ≡ bits16 z
 bits_16 {z} s = rw (to_z-of_z {w = w32} (wide s), to_z-of_z {w = w16} (fits s)) (bits s)
   where

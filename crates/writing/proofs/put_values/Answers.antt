@@ -1,5 +1,5 @@
 -- Each turn stores the bytes of the value that comes next.
-use mathlib.Core.Path.{◌≡◌, refl, ap, ◌∙◌}
+use mathlib.Core.Path.{◌≡◌, refl, ◌∙◌}
 use mathlib.Core.List.{List, [], ◌∷◌}
 use Prim.Native.Nat.{ℕ, ◌+◌, ◌*◌, ◌<◌}
 use native.Mathlib.Numerals.{add-one}
@@ -22,8 +22,10 @@ turn : (l k : List ℕ) (values : List ℤ) (p n : ℕ) → n < length values �
 unfolding value_bytes
 turn l k values p n h e =
     let z = get_or values n (pos 0) in
-    let size : length (value_bytes (take n values)) ≡ value_size * n = length_values (take n values) ∙ ap (λ (m : ℕ). 2 * m) (length-take-le n values (omega (arith, h))) in
-    rw (e, add-one, take-suc values n (pos 0) h, values_append (take n values) (z ∷ []), sets_append l p (value_bytes (take n values)) (value_bytes (z ∷ [])), size)
+    let bytes = value_bytes (take n values) in
+    let taken = length-take-le n values (omega (arith, h)) in
+    let size : length bytes ≡ value_size * n = omega (arith, length_values (take n values), taken) in
+    rw (e, add-one, take-suc values n (pos 0) h, values_append (take n values) (z ∷ []), sets_append l p bytes (value_bytes (z ∷ [])), size)
 
 pub loop-i-init : goal.loop-i-init
 unfolding value_bytes
