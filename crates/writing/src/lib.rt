@@ -119,6 +119,7 @@ fn byte_count(numbers: &[i32]) -> usize
     head_size(number_at(numbers, 0)) + VALUE_SIZE * (numbers.len() - LIST_HEAD)
 }
 
+#[tactic(auto, using(crate::proofs::Flat::room))]
 fn fill_sheet(numbers: &[i32], sheet: &mut [u8])
     requires accepted { list_refusal numbers.now ≡ 0 }
     requires room { length (sheet_bytes (sheet_of numbers.now)) ≤ length sheet.old }
@@ -133,6 +134,7 @@ fn fill_sheet(numbers: &[i32], sheet: &mut [u8])
 }
 
 // The offsets of `paths` records, the first after the header.
+#[tactic(auto, using(crate::proofs::Flat::inside))]
 fn put_offsets(numbers: &[i32], paths: u32, sheet: &mut [u8])
     requires accepted { paths_refusal numbers.now paths list_head ≡ 0 }
     requires room { (head_size paths + value_size * length numbers.now ≤ 2 * most_bytes) × (head_size paths ≤ length sheet.old) }

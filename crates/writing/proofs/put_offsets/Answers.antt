@@ -1,10 +1,9 @@
 -- Each turn stores the place of one path's record: the sheet with all that is to come is that of the loop's start.
 use mathlib.Core.Path.{◌≡◌, ap, ◌∙◌}
 use mathlib.Core.List.{List, [], ◌++◌}
-use Prim.Native.Nat.{ℕ, zero, suc, ◌+◌, ◌-◌, ◌*◌, ◌≤◌, ◌<◌}
+use Prim.Native.Nat.{ℕ, zero, suc, ◌+◌, ◌-◌, ◌*◌, ◌<◌}
 use native.Mathlib.Omega.{arith}
 use lib.IntN.{ℤ}
-use lib.ListN.{length}
 use lib.Seq.{sets}
 use Rattle.numbers.proofs.Buffers.{Ahead, then, stored, stored_all}
 use Rattle.sheet.specs.Bytes.{value_size, le32}
@@ -14,54 +13,21 @@ use Rattle.sheet.specs.Writing.{path_refusal, paths_refusal}
 use Rattle.sheet.proofs.Sheets.{length_record}
 use Rattle.sheet.proofs.Writing.{paths_kept, path_fits, path-points}
 use Rattle.writing.proofs.put_offsets.Goals as goal
-use Rattle.writing.proofs.put_offsets.Goals.{After-path_point_numbers-n, In-loop-k}
+use Rattle.writing.proofs.put_offsets.Goals.{In-loop-k}
 
--- ---- in a turn the path at `at` has no refusal, so that all its numbers are there
+-- in a turn the path at `at` has no refusal, so that all its numbers are there
 
 kept : (c : In-loop-k)
     → let l = c.args.numbers.now in
     (path_refusal l c.loop-k.at ≡ 0) × (paths_refusal l (c.args.paths - c.loop-k.k - 1) (path_end l c.loop-k.at) ≡ 0)
 kept c = paths_kept c.args.numbers.now (c.args.paths - c.loop-k.k) c.loop-k.at (omega arith) c.loop-k.invariant.1
 
-inside : (c : In-loop-k) → path_end c.args.numbers.now c.loop-k.at ≤ length c.args.numbers.now
-inside c = path_fits c.args.numbers.now c.loop-k.at (kept c).0
-
 pub overflow_cast-place : goal.overflow_cast-place
-overflow_cast-place c = omega (arith, inside (goal.at.overflow_cast-place c).In-loop-k)
+overflow_cast-place c = omega (arith, path_fits c.args.numbers.now _ (kept (goal.at.overflow_cast-place c).In-loop-k).0)
 
 pub path_point_numbers-n-requires : goal.path_point_numbers-n-requires
-path_point_numbers-n-requires c = omega (arith, inside (goal.at.path_point_numbers-n-requires c).In-loop-k)
-
--- ---- its end
-
-end : (c : After-path_point_numbers-n)
-    → c.loop-k.at + (path_head + c.path_point_numbers-n.result) ≡ path_end c.args.numbers.now c.loop-k.at
-end c = omega (arith, c.path_point_numbers-n.ensures)
-
-pub overflow_mul-place : goal.overflow_mul-place
-overflow_mul-place c =
-    let at = goal.at.overflow_mul-place c in
-    omega (arith, end at.After-path_point_numbers-n, inside at.In-loop-k)
-
-pub overflow_add-place : goal.overflow_add-place
-overflow_add-place c =
-    let at = goal.at.overflow_add-place c in
-    omega (arith, end at.After-path_point_numbers-n, inside at.In-loop-k)
-
-pub overflow_add-place-in-loop-k : goal.overflow_add-place-in-loop-k
-overflow_add-place-in-loop-k c =
-    let at = goal.at.overflow_add-place-in-loop-k c in
-    omega (arith, end at.After-path_point_numbers-n, inside at.In-loop-k)
-
-pub overflow_add-at : goal.overflow_add-at
-overflow_add-at c =
-    let at = goal.at.overflow_add-at c in
-    omega (arith, end at.After-path_point_numbers-n, inside at.In-loop-k)
-
-pub overflow_add-at-in-loop-k : goal.overflow_add-at-in-loop-k
-overflow_add-at-in-loop-k c =
-    let at = goal.at.overflow_add-at-in-loop-k c in
-    omega (arith, end at.After-path_point_numbers-n, inside at.In-loop-k)
+path_point_numbers-n-requires c =
+    omega (arith, path_fits c.args.numbers.now _ (kept (goal.at.path_point_numbers-n-requires c).In-loop-k).0)
 
 -- the next path's offset, and those after it
 offsets_more : (l : List ℤ) (place n i : ℕ) → 0 < n → path_refusal l i ≡ 0
@@ -94,10 +60,12 @@ loop-k-preserved c =
     let at = goal.at.loop-k-preserved c in
     let path = kept at.In-loop-k in
     let less : c.args.paths - (c.loop-k.k + 1) ≡ c.args.paths - c.loop-k.k - 1 = omega arith in
+    let end : c.loop-k.at + (path_head + c.path_point_numbers-n.result) ≡ path_end c.args.numbers.now c.loop-k.at =
+    omega (arith, c.path_point_numbers-n.ensures) in
     let bytes = c.put_u32.ensures ∙ ap (λ (to : ℕ). sets c.loop-k.sheet to (le32 c.loop-k.place)) c.head_size.ensures in
     let ahead =
     turn c.args.numbers.now _ _ _ _ _ c.loop-k-test.true path.0 c.path_point_numbers-n.ensures bytes c.loop-k.invariant.2 in
-    (omega arith, rw (less, end at.After-path_point_numbers-n) path.1, ahead)
+    (omega arith, rw (less, end) path.1, ahead)
 
 pub returns : goal.returns
 returns c =
