@@ -58,6 +58,7 @@ fn check_list(numbers: &[i32]) -> Result<(), Refusal>
 }
 
 // The paths stand one after another; `at` is where the next stands.
+#[tactic(auto, using(sheet::proofs::Writing::path_fits))]
 fn check_paths(numbers: &[i32], paths: u32) -> Result<(), Refusal>
     requires { list_head ≤ length numbers.now }
     ensures { refusal_of result ≡ paths_refusal numbers.now paths list_head }

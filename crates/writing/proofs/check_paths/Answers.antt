@@ -34,12 +34,6 @@ returns-in_err-check_path c =
 pub path_point_numbers-requires : goal.path_point_numbers-requires
 path_point_numbers-requires c = omega (arith, fits c)
 
-pub overflow_add-at : goal.overflow_add-at
-overflow_add-at c = omega (arith, end c, fits (goal.at.overflow_add-at c).In_ok-check_path)
-
-pub overflow_add-at-in-loop : goal.overflow_add-at-in-loop
-overflow_add-at-in-loop c = omega (arith, end c, fits (goal.at.overflow_add-at-in-loop c).In_ok-check_path)
-
 pub loop-preserved : goal.loop-preserved
 loop-preserved c =
     let passed = (goal.at.loop-preserved c).In_ok-check_path in
