@@ -124,6 +124,7 @@ fn record_point_numbers(sheet: &[u8], at: usize) -> usize
 // ---- the number list of an accepted sheet
 
 // After the header every number of a sheet is of sixteen bits, and the number list has them in the same order.
+#[tactic(auto, using(sheet::proofs::Reading::headed, crate::proofs::Flat::numbers_count))]
 fn number_count(sheet: &[u8]) -> usize
     requires { sheet_refusal sheet.now ≡ 0 }
     ensures { result ≡ length (sheet_numbers (sheet_at sheet.now)) }
@@ -131,6 +132,7 @@ fn number_count(sheet: &[u8]) -> usize
     LIST_HEAD + (sheet.len() - head_size(u32_at(sheet, 0))) / VALUE_SIZE
 }
 
+#[tactic(auto, using(sheet::proofs::Reading::headed, crate::proofs::Flat::numbers_count, rules::proofs::Laws::limits_hold))]
 fn fill_numbers(sheet: &[u8], numbers: &mut [i32])
     requires accepted { sheet_refusal sheet.now ≡ 0 }
     requires room { length (sheet_numbers (sheet_at sheet.now)) ≤ length numbers.old }

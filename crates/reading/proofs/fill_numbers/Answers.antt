@@ -27,9 +27,6 @@ room b l e h = rw (numbers_count b e) at h
 start : (c : After-head_size-start) → c.head_size-start.result ≡ head_size (u32_at c.args.sheet.now 0)
 start c = c.head_size-start.ensures ∙ ap head_size c.u32_at-paths.ensures
 
-pub u32_at-paths-requires : goal.u32_at-paths-requires
-u32_at-paths-requires c = omega (arith, (headed _ c.requires.accepted).least)
-
 -- ---- the three numbers of the header
 
 count_small : (b : List ℕ) {n : ℕ} → sheet_refusal b ≡ 0 → n ≡ u32_at b 0 → n ≤ 65536
@@ -43,35 +40,13 @@ lower_small b r e =
     let limits = limits_hold _ _ (headed b r).limits in
     omega (arith, limits.order, limits.most)
 
-pub overflow_cast-numbers : goal.overflow_cast-numbers
-overflow_cast-numbers c = record { sfits = omega (arith, count_small _ c.requires.accepted c.u32_at-paths.ensures) }
-
-pub bounds-numbers-0 : goal.bounds-numbers-0
-bounds-numbers-0 c = omega (arith, room _ _ c.requires.accepted c.requires.room)
-
-pub u32_at-requires : goal.u32_at-requires
-u32_at-requires c = omega (arith, (headed _ c.requires.accepted).least)
-
-pub overflow_cast-numbers-2 : goal.overflow_cast-numbers-2
-overflow_cast-numbers-2 c = record { sfits = omega (arith, upper_small _ c.requires.accepted c.u32_at.ensures) }
-
 pub bounds-numbers-1 : goal.bounds-numbers-1
 bounds-numbers-1 c = simp length-set (omega (arith, room _ _ c.requires.accepted c.requires.room))
-
-pub u32_at-requires-2 : goal.u32_at-requires-2
-u32_at-requires-2 c = omega (arith, (headed _ c.requires.accepted).least)
-
-pub overflow_cast-numbers-3 : goal.overflow_cast-numbers-3
-overflow_cast-numbers-3 c = record { sfits = omega (arith, lower_small _ c.requires.accepted c.u32_at-2.ensures) }
 
 pub bounds-numbers-2 : goal.bounds-numbers-2
 bounds-numbers-2 c = simp length-set (omega (arith, room _ _ c.requires.accepted c.requires.room))
 
 -- ---- the values
-
-pub overflow_sub-sheet : goal.overflow_sub-sheet
-overflow_sub-sheet c =
-    omega (arith, start (goal.at.overflow_sub-sheet c).After-head_size-start, (headed _ c.requires.accepted).table)
 
 pub take_values-requires : goal.take_values-requires
 take_values-requires c =
