@@ -16,12 +16,6 @@ use Rattle.drawer.proofs.segments.entry_of.Goals as goal
 start : (F k : ℕ) → F ≤ 12 → k < 64 → k * 2 ^ F % 4294967296 ≡ 2 ^ F * k
 start F k f h = mod-eq_of_lt (omega (arith, position_most F k 0 f h zero-le, mul_comm k (2 ^ F))) ∙ mul_comm k (2 ^ F)
 
-pub overflow_cast-result : goal.overflow_cast-result
-overflow_cast-result c =
-    let F = c.args.d.finest in
-    let h = c.requires in
-    rw (start F c.args.k h.finest h.few) (record { sfits = omega (arith, position_most F _ _ h.finest h.few h.within) })
-
 pub returns : goal.returns
 unfolding entry point
 returns c =
