@@ -64,14 +64,18 @@ impl Curve for Cubic {
 
     // By the differences of neighbours.
     fn coefficients(self) -> Coefficients {
-        let first = i64::from(self.p1) - i64::from(self.p0);
-        let second = i64::from(self.p2) - i64::from(self.p1);
-        let third = i64::from(self.p3) - i64::from(self.p2);
+        let p0 = i64::from(self.p0);
+        let p1 = i64::from(self.p1);
+        let p2 = i64::from(self.p2);
+        let p3 = i64::from(self.p3);
+        let first = p1 - p0;
+        let second = p2 - p1;
+        let third = p3 - p2;
         Coefficients {
             a: third - 2 * second + first,
             b: 3 * (second - first),
             c: 3 * first,
-            d: i64::from(self.p0),
+            d: p0,
         }
     }
 }
@@ -95,13 +99,16 @@ impl Curve for Quadratic {
 
     // By the differences of neighbours.
     fn coefficients(self) -> Coefficients {
-        let first = i64::from(self.p1) - i64::from(self.p0);
-        let second = i64::from(self.p2) - i64::from(self.p1);
+        let p0 = i64::from(self.p0);
+        let p1 = i64::from(self.p1);
+        let p2 = i64::from(self.p2);
+        let first = p1 - p0;
+        let second = p2 - p1;
         Coefficients {
             a: 0,
             b: second - first,
             c: 2 * first,
-            d: i64::from(self.p0),
+            d: p0,
         }
     }
 }
