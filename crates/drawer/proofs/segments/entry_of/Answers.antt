@@ -24,7 +24,10 @@ returns c =
     let k = c.args.k in
     let h = c.requires in
     let most = position_most F k q h.finest h.few h.within in
-    let position = ap (λ (n : ℕ). to_z w32 (n + q)) (start F k h.finest h.few) ∙ to_z_pos w32 {n = 2 ^ F * k + q} (omega arith) in
+    let position = to_z-of_z {w = w32} {z = c.cast_signed.result} (record { sfits = omega arith })
+    ∙ c.cast_signed.ensures
+    ∙ ap (λ (n : ℕ). to_z w32 (n + q)) (start F k h.finest h.few)
+    ∙ to_z_pos w32 {n = 2 ^ F * k + q} (omega arith) in
     let at = c.shown-shown.result in
     let shown = c.shown-shown.ensures in
     let x = to_z-of_z {w = w32} {z = at.x} (record { sfits = omega arith }) ∙ ap (λ (p : Shown). p.x) shown in
