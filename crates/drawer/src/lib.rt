@@ -46,6 +46,7 @@ pub fn draw(
 }
 
 // The number of points and the length, without a list. Refuses 14, 24, 1, 2, 3, 4.
+#[tactic(auto, using(crate::proofs::Answers::measured_tally, crate::proofs::Answers::measured_refused))]
 pub fn measure(points: &[i32], shape: Shape, limits: Limits) -> Result<Totals, Refusal>
     ensures { answered result ≡ measured (path points.now shape limits) }
 {
@@ -124,6 +125,7 @@ fn run(points: &[i32], shape: Shape, limits: Limits, list: &mut [i32]) -> Tally
 }
 
 // The start, with its entry.
+#[tactic(auto, using(engine::proofs::Accepted::accepted), unfolding(crate::specs::Tally::begun, path::specs::Path::first))]
 fn begin(points: &[i32], shape: Shape, list: &mut [i32]) -> Tally
     requires { Ready shape.degree shape.finest points.now shape.level 0 }
     ensures value { result ≡ begun (entry shape.finest 0 (first shape.degree shape.finest points.now shape.level 0)) }
@@ -150,6 +152,7 @@ fn show(t: Tally, d: Drawing, k: u32, list: &mut [i32]) -> Tally
     add(t, e)
 }
 
+#[tactic(auto, using(entries::proofs::Length::move_most), unfolding(crate::specs::Tally::added))]
 fn add(t: Tally, e: Entry) -> Tally
     requires { Small t }
     ensures { result ≡ added t e }

@@ -54,6 +54,7 @@ trait Read: Curve {
         ensures { Self.control result ≡ control Self.degree points.now c k };
 }
 
+#[tactic(auto, unfolding(path::specs::Path::control, path::specs::Path::point_at))]
 impl Read for Quadratic {
     fn read(points: &[i32], c: usize, k: u32) -> Quadratic {
         let i = COORDINATES * (2 * k as usize) + c;
@@ -65,6 +66,7 @@ impl Read for Quadratic {
     }
 }
 
+#[tactic(auto, unfolding(path::specs::Path::control, path::specs::Path::point_at))]
 impl Read for Cubic {
     fn read(points: &[i32], c: usize, k: u32) -> Cubic {
         let i = COORDINATES * (3 * k as usize) + c;
