@@ -5,11 +5,11 @@ use Prim.Native.Nat.{ℕ}
 use lib.IntN.{ℤ}
 use Rattle.std.specs.Prelude.{Result, Ok, Err, IsOk}
 use Rattle.rules.specs.declared.Degree.{Degree}
+use Rattle.rules.proofs.Numbered.{number_positive}
 use Rattle.coordinate.specs.Control.{Control}
 use Rattle.operations.specs.Coordinates.{Coordinate, in_x, in_y, in_width, pick}
 use Rattle.operations.specs.Refusals.{start_refusal}
 use Rattle.operations.proofs.Every.{picked}
-use Rattle.rules.proofs.Numbered.{number_positive}
 use Rattle.engine.specs.declared.Drawing.{Drawing}
 use Rattle.engine.specs.declared.Refused.{Refused}
 use Rattle.engine.specs.Moved.{Moved, answered}

@@ -109,6 +109,7 @@ fn run(points: &[i32], shape: Shape, limits: Limits, list: &mut [i32]) -> Tally
         // A copy, which the operations can change in registers: what a call hands over stays in memory.
         let first = first_of(points, shape, k);
         let mut d = first;
+        // An operation that was chosen is not refused; choosing is, at the segment's end alone.
         'operations: loop {
             match d.next(limits) {
                 Ok(Operation::Halve) => d = d.halve().unwrap(),

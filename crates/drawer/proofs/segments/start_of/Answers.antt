@@ -1,5 +1,5 @@
 -- The start is accepted, so that it begins.
-use mathlib.Core.Path.{◌≡◌, ap, ◌∙◌}
+use mathlib.Core.Path.{ap, ◌∙◌}
 use Rattle.engine.specs.Moved.{Moved}
 use Rattle.drawer.proofs.Starts.{is_given, given, starts_first}
 use Rattle.drawer.proofs.segments.start_of.Goals as goal
