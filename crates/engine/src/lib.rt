@@ -2,7 +2,9 @@
 #![tactic(auto)]
 
 mod choosing;
+mod cubic;
 mod curve;
+mod quadratic;
 mod refusals;
 mod starting;
 mod turning;

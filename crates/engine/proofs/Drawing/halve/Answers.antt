@@ -4,7 +4,6 @@ use Prim.Native.Nat.{◌≤◌}
 use native.Mathlib.Omega.{arith}
 use Rattle.std.proofs.Common.{rules}
 use Rattle.std.specs.Prelude.{Err}
-use Rattle.rules.specs.declared.refused.Refusal.{Refusal}
 use Rattle.rules.specs.Numbered.{refusal_of}
 use Rattle.rules.specs.Rules.{most_finest}
 use Rattle.rules.proofs.Numbered.{number_positive}

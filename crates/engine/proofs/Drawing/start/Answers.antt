@@ -1,5 +1,5 @@
 -- The three coordinates are checked by the reach of the degree at F, and what begins is the start of their control points.
-use mathlib.Core.Path.{◌≡◌, ap, ◌∙◌}
+use mathlib.Core.Path.{ap, ◌∙◌}
 use Prim.Native.Nat.{◌≤◌}
 use Rattle.rules.specs.declared.Degree.{Degree}
 use Rattle.rules.specs.Rules.{most_reach, reach}

@@ -9,7 +9,6 @@ use Rattle.rules.specs.Rules.{most_finest}
 use Rattle.rules.proofs.Numbered.{number_positive}
 use Rattle.rules.proofs.Refusals.{answers, refuses}
 use Rattle.operations.specs.Coordinates.{every}
-use Rattle.operations.specs.Refusals.{begin_refusal}
 use Rattle.engine.specs.Drawing.{refused}
 use Rattle.engine.specs.Moved.{answered}
 use Rattle.engine.specs.Start.{nothing_drawn}

@@ -5,7 +5,7 @@ use mir.Facts.{to_z-of_z}
 use Rattle.rules.specs.Rules.{are_neighbours}
 use Rattle.coordinate.specs.Points.{are_near}
 use Rattle.engine.proofs.Fitting.{told}
-use Rattle.engine.proofs.curve.CubicCurve.near.Goals as goal
+use Rattle.engine.proofs.cubic.CubicCurve.near.Goals as goal
 
 pub returns : goal.returns
 unfolding are_near

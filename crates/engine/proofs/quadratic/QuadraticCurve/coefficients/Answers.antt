@@ -1,5 +1,5 @@
 -- Every sum and product fits 64 bits; they are the coefficients by `by-differences`.
-use mathlib.Core.Path.{◌≡◌, ◌∙◌}
+use mathlib.Core.Path.{◌∙◌}
 use lib.IntN.{◌-ℤ◌, ◌*ℤ◌, pos}
 use mir.Syntax.{w32, w64}
 use mir.Val.{SFits}
@@ -8,8 +8,8 @@ use Rattle.rules.specs.declared.Degree.TheVariants.{Quadratic}
 use Rattle.coordinate.specs.Control.{Control}
 use Rattle.coordinate.proofs.Coefficients.{by-differences}
 use Rattle.engine.proofs.Fitting.{told_three, from_field}
-use Rattle.engine.proofs.curve.QuadraticCurve.coefficients.Goals as goal
-use Rattle.engine.proofs.curve.QuadraticCurve.coefficients.Goals.{After-from-p2}
+use Rattle.engine.proofs.quadratic.QuadraticCurve.coefficients.Goals as goal
+use Rattle.engine.proofs.quadratic.QuadraticCurve.coefficients.Goals.{After-from-p2}
 
 abbrev p : After-from-p2 → Control Quadratic
 p c = c.args.self

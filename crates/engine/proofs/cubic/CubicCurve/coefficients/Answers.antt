@@ -1,5 +1,5 @@
 -- Every sum and product fits 64 bits; they are the coefficients by `by-differences`.
-use mathlib.Core.Path.{◌≡◌, ◌∙◌}
+use mathlib.Core.Path.{◌∙◌}
 use lib.IntN.{◌+ℤ◌, ◌-ℤ◌, ◌*ℤ◌, pos}
 use mir.Syntax.{w64}
 use Rattle.numbers.proofs.Machine.{Num, literal, local, plus, minus, times, fits}
@@ -8,8 +8,8 @@ use Rattle.coordinate.specs.Control.{Control}
 use Rattle.coordinate.proofs.Bits.{Fitting}
 use Rattle.coordinate.proofs.Coefficients.{by-differences}
 use Rattle.engine.proofs.Fitting.{told, from_field}
-use Rattle.engine.proofs.curve.CubicCurve.coefficients.Goals as goal
-use Rattle.engine.proofs.curve.CubicCurve.coefficients.Goals.{After-from-p3}
+use Rattle.engine.proofs.cubic.CubicCurve.coefficients.Goals as goal
+use Rattle.engine.proofs.cubic.CubicCurve.coefficients.Goals.{After-from-p3}
 
 abbrev p : After-from-p3 → Control Cubic
 p c = c.args.self

@@ -5,7 +5,7 @@ use mir.Facts.{to_z-of_z}
 use Rattle.rules.specs.Rules.{is_coordinate}
 use Rattle.coordinate.specs.Points.{are_coordinates}
 use Rattle.engine.proofs.Fitting.{told}
-use Rattle.engine.proofs.curve.CubicCurve.inside.Goals as goal
+use Rattle.engine.proofs.cubic.CubicCurve.inside.Goals as goal
 
 pub returns : goal.returns
 unfolding are_coordinates
