@@ -106,10 +106,10 @@ fn run(points: &[i32], shape: Shape, limits: Limits, list: &mut [i32]) -> Tally
 {
     let mut t = begin(points, shape, list);
     'segments: for k in 0..shape.segments {
-        // A copy, which the operations can change in registers: what a call hands over stays in memory.
+        // A copy, which the operations can change in registers: what a call hands over stays in memory, and that is slower.
         let first = first_of(points, shape, k);
         let mut d = first;
-        // An operation that was chosen is not refused; choosing is, at the segment's end alone.
+        // The document's form: the inner loop is left by its label. A chosen operation is not refused; choosing is, at the segment's end alone.
         'operations: loop {
             match d.next(limits) {
                 Ok(Operation::Halve) => d = d.halve().unwrap(),
