@@ -9,6 +9,7 @@ use cleaned::{Cleaner, Fed, Move};
 use entries::Entry;
 
 // One entry more.
+#[tactic(auto, unfolding(cleaned::specs::Cleaner::fed))]
 pub fn feed(c: Cleaner, e: Entry) -> Fed
     ensures { result ≡ fed c e }
 {
@@ -23,6 +24,7 @@ pub fn feed(c: Cleaner, e: Entry) -> Fed
 }
 
 // What is left at the end: the last entry, where there was one.
+#[tactic(auto, unfolding(cleaned::specs::Cleaner::ending))]
 pub fn end(c: Cleaner) -> Option<Entry>
     ensures { result ≡ ending c }
 {
@@ -86,6 +88,7 @@ fn move_of(from: Entry, to: Entry) -> Move
 }
 
 // Is one along one axis, and one along the other?
+#[tactic(auto, unfolding(cleaned::specs::Moves::elbow))]
 fn is_elbow(first: Move, second: Move) -> bool
     ensures { result ≡ elbow first second }
 {

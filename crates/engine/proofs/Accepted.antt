@@ -18,7 +18,7 @@ use Rattle.coordinate.proofs.Ends.{first_shown}
 use Rattle.operations.specs.Coordinates.{Coordinate, in_x, in_y, in_width}
 use Rattle.operations.specs.Refusals.{begin_refusal, start_refusal}
 use Rattle.operations.proofs.Every.{every_true}
-use Rattle.engine.specs.declared.Moved.{Moved}
+use Rattle.engine.specs.Moved.{Moved}
 use Rattle.engine.specs.Drawing.{refused}
 use Rattle.engine.specs.Start.{nothing_drawn, first_drawing, started}
 use Rattle.engine.specs.Shown.{point}

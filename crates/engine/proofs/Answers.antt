@@ -7,7 +7,7 @@ use Rattle.coordinate.specs.Registers.{Operation, turn}
 use Rattle.operations.specs.Position.{new_level, new_position}
 use Rattle.operations.specs.Refusals.{call_refusal, registers_refusal}
 use Rattle.engine.specs.declared.Drawing.{Drawing}
-use Rattle.engine.specs.declared.Moved.{Moved}
+use Rattle.engine.specs.Moved.{Moved}
 use Rattle.engine.specs.Drawing.{of, turned, refused, moved, landed, called}
 
 pub call_refused : (op : Operation) (d : Drawing) {k : ℕ} → k ≡ call_refusal d.finest op d.level d.q → (k ≡ 0 → ⊥) → refused d k ≡ called op d

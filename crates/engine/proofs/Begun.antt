@@ -15,12 +15,13 @@ use Rattle.operations.specs.Coordinates.{Coordinate, pick}
 use Rattle.operations.proofs.Every.{picked}
 use Rattle.operations.specs.Refusals.{start_refusal}
 use Rattle.engine.specs.declared.Drawing.{Drawing}
-use Rattle.engine.specs.declared.Moved.{Moved}
-use Rattle.engine.specs.declared.starting.Coefficients.{Coefficients}
+use Rattle.engine.specs.Moved.{Moved}
+use Rattle.engine.specs.declared.curve.Coefficients.{Coefficients}
 use Rattle.engine.specs.declared.starting.Checked.{Checked}
 use Rattle.engine.specs.Drawing.{moved}
 use Rattle.engine.specs.Start.{nothing_drawn, first_drawing, started}
-use Rattle.engine.specs.Checked.{curve_of, coefficients, no_curve, checked, begun}
+use Rattle.engine.specs.Coefficients.{curve_of, coefficients, no_curve}
+use Rattle.engine.specs.Checked.{checked, begun}
 use Rattle.engine.proofs.Accepted.{accepted}
 
 module _ (D : Degree) (W : ℕ) (p : Control D) where

@@ -23,7 +23,7 @@ use Rattle.coordinate.specs.Registers.{Operation, halve, double, step, turn, sta
 use Rattle.operations.specs.Coordinates.{pick, every as every_coordinate}
 use Rattle.operations.specs.Position.{is_drawing, is_aligned}
 use Rattle.operations.specs.Refusals.{gate, call_refusal, registers_refusal, begin_refusal, start_refusal}
-use Rattle.engine.specs.declared.Moved.{Moved}
+use Rattle.engine.specs.Moved.{Moved}
 use Rattle.engine.specs.Drawing.{turned, called}
 use Rattle.engine.specs.Start.{zeros, started}
 

@@ -14,7 +14,7 @@ use Rattle.operations.specs.Coordinates.{Coordinate}
 use Rattle.operations.specs.Refusals.{call_refusal, registers_refusal, call_table, start_refusal, start_table, choice_refusal, choice_table, standard_table}
 use Rattle.operations.proofs.Tabled.{call_among, start_among, choice_among, standard_among}
 use Rattle.engine.specs.declared.Drawing.{Drawing}
-use Rattle.engine.specs.declared.Moved.{Moved}
+use Rattle.engine.specs.Moved.{Moved}
 use Rattle.engine.specs.Drawing.{of, turned, refused, moved, called}
 use Rattle.engine.specs.Start.{nothing_drawn, first_drawing, started}
 use Rattle.engine.specs.Choice.{Said, says, chosen, refused_by, choice}

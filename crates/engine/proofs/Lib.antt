@@ -1,5 +1,6 @@
 -- Laws of the engine's definitions that belong to no one function.
 pub mod Fitting
+pub mod Moved
 pub mod Each
 pub mod Answers
 pub mod Accepted

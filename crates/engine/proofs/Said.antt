@@ -3,14 +3,16 @@
 use mathlib.Core.Path.{◌≡◌, refl, sym, ap, ◌∙◌}
 use mathlib.Core.Option.{Option, none, some}
 use Prim.Native.Nat.{ℕ, zero, suc}
+use Rattle.std.specs.Prelude.{Result, Ok, Err}
+use Rattle.rules.specs.declared.refused.Refusal.{Refusal}
 use Rattle.rules.proofs.Refusals.{answers}
 use Rattle.coordinate.specs.Registers.{Operation, halve, double, step}
 use Rattle.operations.specs.Refusals.{choice_refusal}
 use Rattle.operations.specs.ThreeRules.{Ruled}
 use Rattle.operations.proofs.Choice.{rules_choose}
 use Rattle.engine.specs.declared.Drawing.{Drawing}
-use Rattle.engine.specs.declared.Next.{Next}
-use Rattle.engine.specs.declared.Next.TheVariants.{Halve, Double, Step, Refused}
+use Rattle.engine.specs.declared.Operation.{Operation as Answer}
+use Rattle.engine.specs.declared.Operation.TheVariants.{Halve, Double, Step}
 use Rattle.engine.specs.Drawing.{of}
 use Rattle.engine.specs.Choice.{chosen, Said, says, refused_by, said, choice}
 
@@ -21,7 +23,7 @@ coded n = record { refusal = 0; operation = some n }
 pub rules_name : (says halve ≡ coded 0) × (says double ≡ coded 1) × (says step ≡ coded 2)
 rules_name = (refl, refl, refl)
 
-pub answers_name : (said Halve ≡ coded 0) × (said Double ≡ coded 1) × (said Step ≡ coded 2)
+pub answers_name : (said (Ok Halve) ≡ coded 0) × (said (Ok Double) ≡ coded 1) × (said (Ok Step) ≡ coded 2)
 answers_name = (refl, refl, refl)
 
 -- where nothing refuses, by the drawing's own finest level, level, position and registers
@@ -31,17 +33,14 @@ unfolding choice
 choice_is_ruled upper lower d op e w =
     answers refused_by (says (chosen upper lower d)) e ∙ ap says (rules_choose d.finest upper lower d.level d.q (λ c. of c d) op w)
 
-abbrev meant : ℕ → Option ℕ → Next
-meant k none = Refused k
-meant k (some zero) = Halve
-meant k (some (suc zero)) = Double
-meant k (some (suc (suc m))) = Step
+abbrev meant : ℕ → Option ℕ → Option Answer
+meant k none = none
+meant k (some zero) = some Halve
+meant k (some (suc zero)) = some Double
+meant k (some (suc (suc m))) = some Step
 
-meant_said : (r : Next) → meant (said r).refusal (said r).operation ≡ r
-meant_said Halve = refl
-meant_said Double = refl
-meant_said Step = refl
-meant_said (Refused k) = refl
-
-pub said_determines : (r r' : Next) → said r ≡ said r' → r ≡ r'
-said_determines r r' e = sym (meant_said r) ∙ ap (λ (s : Said). meant s.refusal s.operation) e ∙ meant_said r'
+pub said_determines : (r r' : Result Answer Refusal) → said r ≡ said r' → r ≡ r'
+said_determines (Ok a) (Ok b) e = ?
+said_determines (Ok a) (Err s) e = ?
+said_determines (Err r) (Ok b) e = ?
+said_determines (Err r) (Err s) e = ?

@@ -1,13 +1,15 @@
 -- Choosing the next operation of a drawing, and what is answered.
-use Rattle.std.specs.Prelude.{cond, ℕ, ◌+◌, ◌-◌, ◌*◌, ◌^◌}
+use Rattle.std.specs.Prelude.{cond, Result, Ok, Err, ℕ, ◌+◌, ◌-◌, ◌*◌, ◌^◌}
 use Rattle.std.proofs.Math.Option.{Option, none, some}
+use Rattle.rules.specs.declared.refused.Refusal.{Refusal}
 use Rattle.rules.specs.Refusals.{refusal_or}
+use Rattle.rules.specs.Numbered.{number as refused_number}
 use Rattle.coordinate.specs.Registers.{Operation, halve, double, step}
 use Rattle.operations.specs.Refusals.{choice_refusal}
 use Rattle.operations.specs.Choice.{wants_halve, choose}
 use Rattle.engine.specs.declared.Drawing.{Drawing}
-use Rattle.engine.specs.declared.Next.{Next}
-use Rattle.engine.specs.declared.Next.TheVariants.{Halve, Double, Step, Refused}
+use Rattle.engine.specs.declared.Operation.{Operation as Answer}
+use Rattle.engine.specs.declared.Operation.TheVariants.{Halve, Double, Step}
 use Rattle.engine.specs.Drawing.{of}
 
 abbrev pub chosen : ℕ → ℕ → Drawing → Operation
@@ -37,11 +39,11 @@ says op = record { refusal = 0; operation = some (number op) }
 abbrev pub refused_by : ℕ → Said
 refused_by k = record { refusal = k; operation = none }
 
-abbrev pub said : Next → Said
-said Halve = says halve
-said Double = says double
-said Step = says step
-said (Refused k) = refused_by k
+abbrev pub said : Result Answer Refusal → Said
+said (Ok Halve) = says halve
+said (Ok Double) = says double
+said (Ok Step) = says step
+said (Err r) = refused_by (refused_number r)
 
 unfoldable pub choice : ℕ → ℕ → Drawing → Said
 choice upper lower d = refusal_or (choice_refusal d.finest upper lower d.level d.q) refused_by (says (chosen upper lower d))

@@ -7,7 +7,7 @@ use Rattle.operations.specs.Coordinates.{Coordinate, in_x, in_y, in_width}
 use Rattle.operations.specs.Position.{new_level, new_position}
 use Rattle.operations.specs.Refusals.{call_refusal, registers_refusal}
 use Rattle.engine.specs.declared.Drawing.{Drawing}
-use Rattle.engine.specs.declared.Moved.{Moved}
+use Rattle.engine.specs.Moved.{Moved}
 
 -- the registers of a coordinate
 abbrev pub of : Coordinate → Drawing → Registers

@@ -8,7 +8,7 @@ use Rattle.coordinate.specs.Registers.{start_registers}
 use Rattle.operations.specs.Coordinates.{Coordinate, in_x, in_y, in_width}
 use Rattle.operations.specs.Refusals.{start_refusal}
 use Rattle.engine.specs.declared.Drawing.{Drawing}
-use Rattle.engine.specs.declared.Moved.{Moved}
+use Rattle.engine.specs.Moved.{Moved}
 use Rattle.engine.specs.Drawing.{moved}
 
 -- every number 0

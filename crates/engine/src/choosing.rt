@@ -9,7 +9,7 @@ pub(crate) fn increment_of(c: i32, n: u32) -> u64
     requires { n ≤ most_finest }
     ensures { (r : Registers) → r.c ≡ c → result ≡ increment n r }
 {
-    words::magnitude((c >> n) as i64)
+    i64::from(c >> n).unsigned_abs()
 }
 
 // After doubling: by b and c, whatever the others are. In 64 bits, since of registers that a caller made up the doubled c may leave 32.
@@ -17,6 +17,6 @@ pub(crate) fn doubled_increment_of(b: i32, c: i32, n: u32) -> u64
     requires { (1 ≤ n) × (n ≤ most_finest) }
     ensures { (r : Registers) → r.b ≡ b → r.c ≡ c → result ≡ doubled_increment n r }
 {
-    let doubled = (c as i64) + ((b as i64) >> (n + 1));
-    words::magnitude(doubled >> (n - 1))
+    let doubled = i64::from(c) + (i64::from(b) >> (n + 1));
+    (doubled >> (n - 1)).unsigned_abs()
 }

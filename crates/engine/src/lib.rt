@@ -2,30 +2,29 @@
 #![tactic(auto)]
 
 mod choosing;
-mod cubic;
-mod quadratic;
+mod curve;
 mod refusals;
 mod starting;
 mod turning;
 
 ghost use Rattle.std.specs.Prelude.{◌≡◌};
-ghost use Rattle.rules.specs.declared.Degree.TheVariants as degree;
 ghost use Rattle.rules.specs.Rules.{standard_upper, standard_lower};
 ghost use Rattle.coordinate.specs.Registers.{halve, double, step};
 ghost use Rattle.operations.specs.Coordinates.{pick};
 ghost use Rattle.engine.specs.Drawing.{called};
+ghost use Rattle.engine.specs.Moved.{answered};
 ghost use Rattle.engine.specs.Start.{started};
 ghost use Rattle.engine.specs.Choice.{said, choice};
 ghost use Rattle.engine.specs.Shown.{point};
 
 use choosing::{doubled_increment_of, increment_of};
-use coordinate::{Cubic, Quadratic, Registers};
-use cubic::check_cubic;
-use quadratic::check_quadratic;
-use refusals::{choice_refusal, double_refusal, gate, halve_refusal, is_aligned, stride};
-use rules::{Degree, Limits};
-use starting::begin;
+use coordinate::Registers;
+use refusals::{check_choice, check_double, check_gate, check_halve, is_aligned, stride};
+use rules::{Limits, Refusal};
+use starting::{begin, check};
 use turning::{double_one, halve_one, land, pixel_of, refuse, step_one};
+
+pub use curve::{Coefficients, Curve};
 
 // A drawing at level `level` and position `q`, which counts 2^finest-ths of the parameter.
 #[derive(Clone, Copy)]
@@ -38,20 +37,19 @@ pub struct Drawing {
     pub width: Registers,
 }
 
-// A drawing, and the number by which a call was refused: 0 where it was not.
+// Why a call was refused, with the drawing that it was given; of a start one with every number 0.
 #[derive(Clone, Copy)]
-pub struct Moved {
-    pub refusal: u32,
+pub struct Refused {
+    pub refusal: Refusal,
     pub drawing: Drawing,
 }
 
-// The next operation, or the number by which the question was refused.
-#[derive(Clone, Copy)]
-pub enum Next {
+// The next operation.
+#[derive(Clone, Copy, Debug, PartialEq, Eq)]
+pub enum Operation {
     Halve,
     Double,
     Step,
-    Refused(u32),
 }
 
 // The point shown: its pixel, and the width there.
@@ -63,44 +61,30 @@ pub struct Shown {
 }
 
 impl Drawing {
-    // The drawing at the start of a cubic, at a finest level from 6 to 12. Refuses 24, 1, 2, 3, with every number of the drawing 0.
-    pub fn start(x: Cubic, y: Cubic, width: Cubic, finest: u32, level: u32) -> Moved
-        ensures { result ≡ started degree.Cubic finest (pick x y width) level }
-    {
-        let reach = rules::reach(Degree::Cubic, finest);
-        let x = check_cubic(x, reach);
-        let y = check_cubic(y, reach);
-        let width = check_cubic(width, reach);
-        begin(x, y, width, finest, level)
-    }
-
-    // The same of a quadratic: a drawing does not know its degree. Refuses 24, 1, 2, 3.
-    pub fn start_quadratic(
-        x: Quadratic,
-        y: Quadratic,
-        width: Quadratic,
+    // The drawing at the start of a curve of either degree, at a finest level from 6 to 12: a drawing does not know its degree. Refuses 24, 1, 2, 3.
+    pub fn start<C: Curve>(
+        x: C,
+        y: C,
+        width: C,
         finest: u32,
         level: u32,
-    ) -> Moved
-        ensures { result ≡ started degree.Quadratic finest (pick x y width) level }
+    ) -> Result<Drawing, Refused>
+        ensures { answered result ≡ started C.degree finest (pick (C.control x) (C.control y) (C.control width)) level }
     {
-        let reach = rules::reach(Degree::Quadratic, finest);
-        let x = check_quadratic(x, reach);
-        let y = check_quadratic(y, reach);
-        let width = check_quadratic(width, reach);
+        let reach = rules::reach(C::degree(), finest);
+        let x = check(x, reach);
+        let y = check(y, reach);
+        let width = check(width, reach);
         begin(x, y, width, finest, level)
     }
 
     // One level finer. Refuses 10, 5, 6, 10, with the drawing as it was.
-    pub fn halve(self) -> Moved
-        ensures { result ≡ called halve self }
+    pub fn halve(self) -> Result<Drawing, Refused>
+        ensures { answered result ≡ called halve self }
     {
         let level = self.level;
         let q = self.q;
-        let refusal = halve_refusal(self.finest, level, q);
-        if refusal != 0 {
-            return refuse(refusal, self);
-        }
+        check_halve(self.finest, level, q).map_err(|refusal| refuse(refusal, self))?;
         let x = halve_one(self.x, level);
         let y = halve_one(self.y, level);
         let width = halve_one(self.width, level);
@@ -108,15 +92,12 @@ impl Drawing {
     }
 
     // One level coarser. Refuses 10, 5, 7, 8, 10, with the drawing as it was.
-    pub fn double(self) -> Moved
-        ensures { result ≡ called double self }
+    pub fn double(self) -> Result<Drawing, Refused>
+        ensures { answered result ≡ called double self }
     {
         let level = self.level;
         let q = self.q;
-        let refusal = double_refusal(self.finest, level, q);
-        if refusal != 0 {
-            return refuse(refusal, self);
-        }
+        check_double(self.finest, level, q).map_err(|refusal| refuse(refusal, self))?;
         let x = double_one(self.x, level);
         let y = double_one(self.y, level);
         let width = double_one(self.width, level);
@@ -124,16 +105,13 @@ impl Drawing {
     }
 
     // One step on. Refuses 10, 5, 10, with the drawing as it was.
-    pub fn step(self) -> Moved
-        ensures { result ≡ called step self }
+    pub fn step(self) -> Result<Drawing, Refused>
+        ensures { answered result ≡ called step self }
     {
         let finest = self.finest;
         let level = self.level;
         let q = self.q;
-        let refusal = gate(finest, level, q);
-        if refusal != 0 {
-            return refuse(refusal, self);
-        }
+        check_gate(finest, level, q).map_err(|refusal| refuse(refusal, self))?;
         let x = step_one(self.x, level);
         let y = step_one(self.y, level);
         let width = step_one(self.width, level);
@@ -141,38 +119,35 @@ impl Drawing {
     }
 
     // The operation that the three rules choose under these limits, by x and y alone. Refuses 4, 10, 5.
-    pub fn next(self, limits: Limits) -> Next
+    pub fn next(self, limits: Limits) -> Result<Operation, Refusal>
         ensures { said result ≡ choice limits.upper limits.lower self }
     {
         let finest = self.finest;
         let level = self.level;
         let q = self.q;
-        let refusal = choice_refusal(limits, finest, level, q);
-        if refusal != 0 {
-            return Next::Refused(refusal);
-        }
-        let upper = limits.upper as u64;
-        let lower = limits.lower as u64;
+        check_choice(limits, finest, level, q)?;
+        let upper = u64::from(limits.upper);
+        let lower = u64::from(limits.lower);
         let x = increment_of(self.x.c, level);
         let y = increment_of(self.y.c, level);
         if ((upper < x) | (upper < y)) & (level < finest) {
-            return Next::Halve;
+            return Ok(Operation::Halve);
         }
         // A doubled increment is reckoned only where all else asks to double.
         let smaller = (x < lower) & (y < lower);
         if !((0 < level) & smaller & is_aligned(finest, level, q)) {
-            return Next::Step;
+            return Ok(Operation::Step);
         }
         let doubled_x = doubled_increment_of(self.x.b, self.x.c, level);
         let doubled_y = doubled_increment_of(self.y.b, self.y.c, level);
         if (doubled_x <= upper) & (doubled_y <= upper) {
-            return Next::Double;
+            return Ok(Operation::Double);
         }
-        Next::Step
+        Ok(Operation::Step)
     }
 
     // The same under the standard limits. Refuses 10, 5.
-    pub fn next_standard(self) -> Next
+    pub fn next_standard(self) -> Result<Operation, Refusal>
         ensures { said result ≡ choice standard_upper standard_lower self }
     {
         self.next(Limits::standard())

@@ -1,11 +1,12 @@
 // Refusals by finest level, level and q, and what one step adds to q. Nothing is shifted by a finest level before it is known to be one.
 ghost use Rattle.std.specs.Prelude.{◌≡◌, ◌^◌, ◌≤◌};
+ghost use Rattle.rules.specs.Numbered.{refusal_of};
 ghost use Rattle.rules.specs.Rules.{most_finest};
 ghost use Rattle.coordinate.specs.Registers.{halve, double};
 ghost use Rattle.operations.specs.Position.{stride, is_drawing, is_aligned};
 ghost use Rattle.operations.specs.Refusals.{gate, call_refusal, choice_refusal};
 
-use rules::Limits;
+use rules::{Limits, Refusal};
 
 // The position at the end of a drawing.
 fn end(finest: u32) -> u32
@@ -43,52 +44,46 @@ pub(crate) fn is_aligned(finest: u32, level: u32, q: u32) -> bool
 }
 
 // 10 and 5, which come before each operation's own refusals.
-pub(crate) fn gate(finest: u32, level: u32, q: u32) -> u32
-    ensures { result ≡ gate finest level q }
+pub(crate) fn check_gate(finest: u32, level: u32, q: u32) -> Result<(), Refusal>
+    ensures { refusal_of result ≡ gate finest level q }
 {
     if !is_drawing(finest, level, q) {
-        return 10;
+        return Err(Refusal::NoDrawing);
     }
     if q >= end(finest) {
-        return 5;
+        return Err(Refusal::Ended);
     }
-    0
+    Ok(())
 }
 
-pub(crate) fn halve_refusal(finest: u32, level: u32, q: u32) -> u32
-    ensures { result ≡ call_refusal finest halve level q }
+pub(crate) fn check_halve(finest: u32, level: u32, q: u32) -> Result<(), Refusal>
+    ensures { refusal_of result ≡ call_refusal finest halve level q }
 {
-    let refusal = gate(finest, level, q);
-    if refusal != 0 {
-        return refusal;
-    }
+    check_gate(finest, level, q)?;
     if level >= finest {
-        return 6;
+        return Err(Refusal::AtFinestLevel);
     }
-    0
+    Ok(())
 }
 
-pub(crate) fn double_refusal(finest: u32, level: u32, q: u32) -> u32
-    ensures { result ≡ call_refusal finest double level q }
+pub(crate) fn check_double(finest: u32, level: u32, q: u32) -> Result<(), Refusal>
+    ensures { refusal_of result ≡ call_refusal finest double level q }
 {
-    let refusal = gate(finest, level, q);
-    if refusal != 0 {
-        return refusal;
-    }
+    check_gate(finest, level, q)?;
     if level == 0 {
-        return 7;
+        return Err(Refusal::AtLevelZero);
     }
     if !is_aligned(finest, level, q) {
-        return 8;
+        return Err(Refusal::OutOfLine);
     }
-    0
+    Ok(())
 }
 
-pub(crate) fn choice_refusal(limits: Limits, finest: u32, level: u32, q: u32) -> u32
-    ensures { result ≡ choice_refusal finest limits.upper limits.lower level q }
+pub(crate) fn check_choice(limits: Limits, finest: u32, level: u32, q: u32) -> Result<(), Refusal>
+    ensures { refusal_of result ≡ choice_refusal finest limits.upper limits.lower level q }
 {
     if !limits.lawful() {
-        return 4;
+        return Err(Refusal::Limits);
     }
-    gate(finest, level, q)
+    check_gate(finest, level, q)
 }

@@ -1,25 +1,21 @@
 // The start of a drawing of either degree: its refusals, and its registers, from the coefficients of its curves.
 ghost use Rattle.std.specs.Prelude.{◌≡◌, ◌≤◌};
+ghost use Rattle.rules.specs.Numbered.{refusal_of};
 ghost use Rattle.rules.specs.Rules.{most_finest};
 ghost use Rattle.coordinate.specs.Curve.{Mild};
 ghost use Rattle.coordinate.specs.Registers.{start_registers};
 ghost use Rattle.operations.specs.Coordinates.{pick};
 ghost use Rattle.operations.specs.Refusals.{begin_refusal};
 ghost use Rattle.engine.specs.Start.{nothing_drawn};
-ghost use Rattle.engine.specs.Checked.{curve_of, no_curve, begun};
+ghost use Rattle.engine.specs.Moved.{answered};
+ghost use Rattle.engine.specs.Coefficients.{curve_of, no_curve};
+ghost use Rattle.engine.specs.Checked.{checked, begun};
 
+use crate::curve::{Coefficients, Curve};
 use crate::turning::refuse;
-use crate::{Drawing, Moved};
+use crate::{Drawing, Refused};
 use coordinate::Registers;
-
-// The coefficients A, B, C and D of one coordinate's curve.
-#[derive(Clone, Copy)]
-pub(crate) struct Coefficients {
-    pub(crate) a: i32,
-    pub(crate) b: i32,
-    pub(crate) c: i32,
-    pub(crate) d: i32,
-}
+use rules::Refusal;
 
 // One coordinate of a start: whether it keeps rules 1 and 2, and where it keeps both its coefficients.
 #[derive(Clone, Copy)]
@@ -29,50 +25,69 @@ pub(crate) struct Checked {
     pub(crate) curve: Coefficients,
 }
 
+pub(crate) fn check<C: Curve>(p: C, reach: u32) -> Checked
+    ensures { result ≡ checked C.degree reach (C.control p) }
+{
+    let inside = p.inside();
+    let near = p.near(reach);
+    if inside & near {
+        return Checked {
+            inside: inside,
+            near: near,
+            curve: p.coefficients(),
+        };
+    }
+    Checked {
+        inside: inside,
+        near: near,
+        curve: no_curve(),
+    }
+}
+
 // The drawing at the start of three curves, or its refusal.
-pub(crate) fn begin(x: Checked, y: Checked, width: Checked, finest: u32, level: u32) -> Moved
+pub(crate) fn begin(
+    x: Checked,
+    y: Checked,
+    width: Checked,
+    finest: u32,
+    level: u32,
+) -> Result<Drawing, Refused>
     requires { Mild (curve_of x.curve) × Mild (curve_of y.curve) × Mild (curve_of width.curve) }
-    ensures { result ≡ begun finest (pick x y width) level }
+    ensures { answered result ≡ begun finest (pick x y width) level }
 {
     let inside = x.inside & y.inside & width.inside;
     let near = x.near & y.near & width.near;
-    let refusal = begin_refusal(finest, inside, near, level);
-    if refusal != 0 {
-        return refuse(refusal, nothing());
-    }
-    Moved {
-        refusal: 0,
-        drawing: Drawing {
-            finest: finest,
-            level: level,
-            q: 0,
-            x: start_one(x.curve, level),
-            y: start_one(y.curve, level),
-            width: start_one(width.curve, level),
-        },
-    }
+    check_begin(finest, inside, near, level).map_err(|refusal| refuse(refusal, nothing()))?;
+    Ok(Drawing {
+        finest: finest,
+        level: level,
+        q: 0,
+        x: start_one(x.curve, level),
+        y: start_one(y.curve, level),
+        width: start_one(width.curve, level),
+    })
 }
 
 // By whether all points are coordinates, and all neighbours near.
-fn begin_refusal(finest: u32, inside: bool, near: bool, level: u32) -> u32
-    ensures { result ≡ begin_refusal finest inside near level }
+fn check_begin(finest: u32, inside: bool, near: bool, level: u32) -> Result<(), Refusal>
+    ensures { refusal_of result ≡ begin_refusal finest inside near level }
 {
     if !rules::finest(finest) {
-        return 24;
+        return Err(Refusal::FinestLevel);
     }
     if !inside {
-        return 1;
+        return Err(Refusal::Coordinate);
     }
     if !near {
-        return 2;
+        return Err(Refusal::Neighbours);
     }
     if !rules::level(finest, level) {
-        return 3;
+        return Err(Refusal::StartLevel);
     }
-    0
+    Ok(())
 }
 
-// The coefficients are small: every sum here fits 32 bits.
+// The coefficients are small: every register fits 32 bits.
 fn start_one(f: Coefficients, n: u32) -> Registers
     requires { (n ≤ most_finest) × Mild (curve_of f) }
     ensures { result ≡ start_registers n (curve_of f) }
@@ -85,15 +100,15 @@ fn start_one(f: Coefficients, n: u32) -> Registers
     let c = linear + ((square + (cubic >> n)) >> n);
     let d = 65536 * f.d;
     Registers {
-        a: a,
-        b: b,
-        c: c,
-        d: d,
+        a: a as i32,
+        b: b as i32,
+        c: c as i32,
+        d: d as i32,
     }
 }
 
 // Where a coordinate breaks a rule nothing is reckoned of it.
-pub(crate) fn no_curve() -> Coefficients
+fn no_curve() -> Coefficients
     ensures { result ≡ no_curve }
 {
     Coefficients {

@@ -1,5 +1,4 @@
 -- Laws of entries, lists and lengths, for the crates that cite them.
-pub mod Fitting
 pub mod Numbers
 pub mod Length
 pub mod Along

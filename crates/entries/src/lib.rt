@@ -41,6 +41,7 @@ fn store(list: &mut [i32], at: usize, v: i32)
 }
 
 // Entry `i` of a list, where the list reaches that far.
+#[tactic(auto, unfolding(crate::specs::Entries::entry_at))]
 pub fn entry_at(list: &[i32], i: usize) -> Option<Entry>
     ensures { found result ≡ entry_at list.now i }
 {
@@ -57,6 +58,7 @@ pub fn entry_at(list: &[i32], i: usize) -> Option<Entry>
 }
 
 // What the move from one entry to the next adds to the length; the width takes no part.
+#[tactic(auto, unfolding(crate::specs::Length::move_length))]
 pub fn move_length(from: Entry, to: Entry) -> u32
     ensures { result ≡ move_length from to }
 {

@@ -17,7 +17,7 @@ use Rattle.sheet.proofs.Sheets.{segments_short, mark_short}
 use Rattle.sheet.proofs.Reading.{records_done, record_held, record_fits, headed, records_count}
 
 -- m numbers and then n
-values_add : (b : List ℕ) (p m n : ℕ) → values_at b p (m + n) ≡ values_at b p m ++ values_at b (p + value_size * m) n
+pub values_add : (b : List ℕ) (p m n : ℕ) → values_at b p (m + n) ≡ values_at b p m ++ values_at b (p + value_size * m) n
 unfolding values_at
 values_add b p zero n = rw (zero-add n, add-zero p)
 values_add b p (suc m) n =

@@ -3,127 +3,106 @@
 
 ghost use Rattle.std.specs.Prelude.{◌≡◌, ◌+◌, ◌*◌, ◌≤◌, ◌<◌, length};
 ghost use Rattle.std.proofs.lemmas.List.Edits.{sets};
+ghost use Rattle.rules.specs.Numbered.{refusal_of};
 ghost use Rattle.sheet.specs.Bytes.{value_size, u16_at, u32_at, i16_at, values_at};
 ghost use Rattle.sheet.specs.Sheet.{most_bytes, most_paths, head_size, record_head, sheet_numbers};
 ghost use Rattle.sheet.specs.Records.{record_mark, record_point_numbers, sheet_at};
 ghost use Rattle.sheet.specs.Reading.{body_refusal, record_refusal, records_refusal, sheet_refusal};
-ghost use Rattle.sheet.specs.Answer.{refused_by, read_answer, numbers_read};
+ghost use Rattle.sheet.specs.Answer.{answered, read_answer, numbers_read};
 
-use rules::{Limits, Marked, SHEET_FINEST};
-use sheet::{
-    LEAST_BYTES, LIST_HEAD, MOST_BYTES, MOST_PATHS, OFFSET_SIZE, RECORD_HEAD, VALUE_SIZE, Written,
-};
+use rules::{Limits, Marked, Refusal, SHEET_FINEST};
+use sheet::{LEAST_BYTES, LIST_HEAD, MOST_BYTES, MOST_PATHS, RECORD_HEAD, VALUE_SIZE, head_size};
 
-// Reads a sheet's number list into the front of `numbers`. Refuses 11, 12, 4; per record 13, 15, 14, 3, 15, 1, 2; 16, 9, with `numbers` as
-// they were.
-pub fn read(sheet: &[u8], numbers: &mut [i32]) -> Written
-    ensures answer { result ≡ read_answer sheet.now (length numbers.old) }
+// Reads a sheet's number list into the front of `numbers` and answers how many they are. Refuses 11, 12, 4; per record 13, 15, 14, 3, 15,
+// 1, 2; 16, 9, with `numbers` as they were.
+#[tactic(auto, using(numbers::proofs::Buffers::sets_front), unfolding(sheet::specs::Answer::read_answer, sheet::specs::Answer::numbers_read, sheet::specs::Reading::read_refusal))]
+pub fn read(sheet: &[u8], numbers: &mut [i32]) -> Result<u32, Refusal>
+    ensures answer { answered result ≡ read_answer sheet.now (length numbers.old) }
     ensures list_after { numbers.new ≡ numbers_read sheet.now numbers.old }
 {
-    let refusal = sheet_refusal(sheet);
-    if refusal != 0 {
-        return refuse(refusal);
-    }
+    check_sheet(sheet)?;
     let count = number_count(sheet);
     if numbers.len() < count {
-        return refuse(9);
+        return Err(Refusal::Room);
     }
     fill_numbers(sheet, numbers);
-    Written {
-        refusal: 0,
-        count: count as u32,
-    }
-}
-
-fn refuse(refusal: u32) -> Written
-    ensures { result ≡ refused_by refusal }
-{
-    Written {
-        refusal: refusal,
-        count: 0,
-    }
+    Ok(count as u32)
 }
 
 // ---- its refusals
 
-fn sheet_refusal(sheet: &[u8]) -> u32
-    ensures { result ≡ sheet_refusal sheet.now }
+#[tactic(auto, unfolding(sheet::specs::Reading::sheet_refusal))]
+fn check_sheet(sheet: &[u8]) -> Result<(), Refusal>
+    ensures { refusal_of result ≡ sheet_refusal sheet.now }
 {
     if sheet.len() < LEAST_BYTES {
-        return 11;
+        return Err(Refusal::SheetSize);
     }
     if MOST_BYTES < sheet.len() {
-        return 11;
+        return Err(Refusal::SheetSize);
     }
     let paths = u32_at(sheet, 0);
     if MOST_PATHS < paths {
-        return 12;
+        return Err(Refusal::PathCount);
     }
     if sheet.len() < head_size(paths) {
-        return 12;
+        return Err(Refusal::PathCount);
     }
     let limits = Limits {
         upper: u32_at(sheet, 4),
         lower: u32_at(sheet, 8),
     };
     if !limits.lawful() {
-        return 4;
+        return Err(Refusal::Limits);
     }
-    records_refusal(sheet, paths)
+    check_records(sheet, paths)
 }
 
 // The records stand one after another; `at` is where record k stands.
-fn records_refusal(sheet: &[u8], paths: u32) -> u32
+fn check_records(sheet: &[u8], paths: u32) -> Result<(), Refusal>
     requires { (paths ≤ most_paths) × (head_size paths ≤ length sheet.now) × (length sheet.now ≤ most_bytes) }
-    ensures { result ≡ records_refusal sheet.now paths 0 (head_size paths) }
+    ensures { refusal_of result ≡ records_refusal sheet.now paths 0 (head_size paths) }
 {
     let mut at = head_size(paths);
-    let mut k: u32 = 0;
-    while k < paths {
-        let refusal = record_refusal(sheet, k, at);
-        if refusal != 0 {
-            return refusal;
-        }
+    for k in 0..paths {
+        check_record(sheet, k, at)?;
         at += RECORD_HEAD + VALUE_SIZE * record_point_numbers(sheet, at);
-        k += 1;
     }
     if at != sheet.len() {
-        return 16;
+        return Err(Refusal::BytesLeft);
     }
-    0
+    Ok(())
 }
 
-fn record_refusal(sheet: &[u8], k: u32, at: usize) -> u32
+#[tactic(auto, unfolding(sheet::specs::Reading::record_refusal, sheet::specs::Reading::is_offset))]
+fn check_record(sheet: &[u8], k: u32, at: usize) -> Result<(), Refusal>
     requires { (k < most_paths) × (head_size (k + 1) ≤ length sheet.now) × (at ≤ length sheet.now) × (length sheet.now ≤ most_bytes) }
-    ensures { result ≡ record_refusal sheet.now k at }
+    ensures { refusal_of result ≡ record_refusal sheet.now k at }
 {
     let offset = u32_at(sheet, head_size(k));
     if offset as usize != at {
-        return 13;
+        return Err(Refusal::Offset);
     }
-    body_refusal(sheet, at)
+    check_body(sheet, at)
 }
 
-fn body_refusal(sheet: &[u8], at: usize) -> u32
+#[tactic(auto, unfolding(sheet::specs::Reading::body_refusal, sheet::specs::Records::record_at, sheet::specs::PathRules::path_rules))]
+fn check_body(sheet: &[u8], at: usize) -> Result<(), Refusal>
     requires { (at ≤ length sheet.now) × (length sheet.now ≤ most_bytes) }
-    ensures { result ≡ body_refusal sheet.now at }
+    ensures { refusal_of result ≡ body_refusal sheet.now at }
 {
     if sheet.len() < at + RECORD_HEAD {
-        return 15;
+        return Err(Refusal::CutRecord);
     }
     let marked = record_mark(sheet, at);
-    let refusal = rules::head_refusal(SHEET_FINEST, u16_at(sheet, at), marked.level);
-    if refusal != 0 {
-        return refusal;
-    }
+    rules::check_head(SHEET_FINEST, u16_at(sheet, at), marked.level)?;
     let n = record_point_numbers(sheet, at);
     if sheet.len() < at + RECORD_HEAD + VALUE_SIZE * n {
-        return 15;
+        return Err(Refusal::CutRecord);
     }
     let mut points = [0i32; rules::MOST_POINT_NUMBERS];
     take_values(sheet, at + RECORD_HEAD, n, &mut points, 0);
-    let degree = marked.degree;
-    rules::points_refusal(rules::reach(degree, SHEET_FINEST), &points[..n])
+    rules::check_points(rules::reach(marked.degree, SHEET_FINEST), &points[..n])
 }
 
 // The degree and the start level of the record at `at`.
@@ -131,7 +110,7 @@ fn record_mark(sheet: &[u8], at: usize) -> Marked
     requires { at + record_head ≤ length sheet.now }
     ensures { result ≡ record_mark sheet.now at }
 {
-    Marked::by(u16_at(sheet, at + VALUE_SIZE))
+    Marked::from(u16_at(sheet, at + VALUE_SIZE))
 }
 
 // How many numbers the points of the record at `at` are.
@@ -139,8 +118,7 @@ fn record_point_numbers(sheet: &[u8], at: usize) -> usize
     requires { at + record_head ≤ length sheet.now }
     ensures { result ≡ record_point_numbers sheet.now at }
 {
-    let degree = record_mark(sheet, at).degree;
-    rules::point_numbers(degree, u16_at(sheet, at))
+    rules::point_numbers(record_mark(sheet, at).degree, u16_at(sheet, at))
 }
 
 // ---- the number list of an accepted sheet
@@ -177,23 +155,9 @@ fn take_values(sheet: &[u8], p: usize, n: usize, list: &mut [i32], at: usize)
     requires { (p + value_size * n ≤ length sheet.now) × (at + n ≤ length list.old) }
     ensures { list.new ≡ sets list.old at (values_at sheet.now p n) }
 {
-    let mut from = p;
-    let mut to = at;
-    let mut left = n;
-    while 0 < left {
-        let v = i16_at(sheet, from);
-        list[to] = v;
-        from += VALUE_SIZE;
-        to += 1;
-        left -= 1;
+    for i in 0..n {
+        list[at + i] = i16_at(sheet, p + VALUE_SIZE * i);
     }
-}
-
-// The bytes before the records.
-fn head_size(paths: u32) -> usize
-    ensures { result ≡ head_size paths }
-{
-    LEAST_BYTES + OFFSET_SIZE * paths as usize
 }
 
 // ---- numbers in bytes
@@ -203,24 +167,19 @@ fn u16_at(sheet: &[u8], p: usize) -> u32
     ensures value { result ≡ u16_at sheet.now p }
     ensures upper_bound { result < 65536 }
 {
-    sheet[p] as u32 + 256 * sheet[p + 1] as u32
+    u32::from(u16::from_le_bytes([sheet[p], sheet[p + 1]]))
 }
 
 fn u32_at(sheet: &[u8], p: usize) -> u32
     requires { p + 4 ≤ length sheet.now }
     ensures { result ≡ u32_at sheet.now p }
 {
-    u16_at(sheet, p) + 65536 * u16_at(sheet, p + 2)
+    u32::from_le_bytes([sheet[p], sheet[p + 1], sheet[p + 2], sheet[p + 3]])
 }
 
 fn i16_at(sheet: &[u8], p: usize) -> i32
     requires { p + 2 ≤ length sheet.now }
     ensures { result ≡ i16_at sheet.now p }
 {
-    let bits = u16_at(sheet, p);
-    if bits < 32768 {
-        bits as i32
-    } else {
-        bits as i32 - 65536
-    }
+    i32::from(i16::from_le_bytes([sheet[p], sheet[p + 1]]))
 }

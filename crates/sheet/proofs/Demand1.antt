@@ -19,7 +19,7 @@ use Rattle.sheet.specs.PathRules.{path_rules}
 use Rattle.sheet.specs.Reading.{is_offset, body_refusal, record_refusal, records_refusal, sheet_refusal, read_refusal}
 use Rattle.sheet.specs.Writing.{path_refusal, paths_refusal, list_refusal, write_refusal}
 use Rattle.sheet.specs.Answer.{read_table, write_table, read_answer, numbers_read, write_answer, bytes_written}
-use Rattle.sheet.proofs.Room.{answered, answered_refusal, refused_answer, room_refusal}
+use Rattle.sheet.proofs.Room.{refused_or_wrote, answered_refusal, refused_answer, room_refusal}
 
 -- ---- the tables
 
@@ -34,7 +34,7 @@ path_among begins ends p short segments level points chained none =
     (line_among ends short (line_among (are_points p.points) points (line_among (are_chained _ p.points) chained none))))
 
 room_among : (k count room : ℕ) {table : List ℕ} → Among k table → Among 9 table → Among 0 table
-    → Among (answered (room_refusal k count room) count).refusal table
+    → Among (refused_or_wrote (room_refusal k count room) count).refusal table
 room_among k count room refusal nine none = rw answered_refusal (first_among k _ refusal (line_among (leb count room) nine none))
 
 -- of all records, and of all paths

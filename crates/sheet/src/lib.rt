@@ -1,5 +1,8 @@
-// What reading and writing a sheet have in common: the answer, and the sizes of a sheet and of its number list. No functions.
+// What reading and writing a sheet have in common: the sizes of a sheet and of its number list.
 #![tactic(auto)]
+
+ghost use Rattle.std.specs.Prelude.{◌≡◌};
+ghost use Rattle.sheet.specs.Sheet.{head_size};
 
 // A sheet has at most so many paths, and from LEAST_BYTES, the count and the limits, to MOST_BYTES bytes; MOST_NUMBERS numbers have room for
 // every sheet's number list.
@@ -23,9 +26,9 @@ pub const LIST_HEAD: usize = 3;
 
 pub const PATH_HEAD: usize = 2;
 
-// The answer: how many numbers or bytes were written, or the refusal with 0.
-#[derive(Clone, Copy)]
-pub struct Written {
-    pub refusal: u32,
-    pub count: u32,
+// The bytes before the records: the count, the limits and the offsets.
+pub fn head_size(paths: u32) -> usize
+    ensures { result ≡ head_size paths }
+{
+    LEAST_BYTES + OFFSET_SIZE * paths as usize
 }

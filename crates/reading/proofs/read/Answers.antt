@@ -1,45 +1,11 @@
--- The refusal of the sheet decides, then the room, and then the numbers fill the list.
-use mathlib.Core.Path.{refl, sym, ◌∙◌}
-use mathlib.Core.List.{List}
-use Prim.Native.Nat.{ℕ}
+-- The count is of 32 bits: an accepted sheet has few bytes.
+use mathlib.Core.Path.{sym}
 use native.Mathlib.Omega.{arith}
-use lib.IntN.{ℤ}
-use Rattle.sheet.specs.Sheet.{sheet_numbers}
-use Rattle.sheet.specs.Records.{sheet_at}
-use Rattle.sheet.specs.Reading.{read_refusal}
-use Rattle.sheet.specs.Answer.{read_answer, numbers_read}
 use Rattle.sheet.proofs.Reading.{headed}
-use Rattle.sheet.proofs.Room.{refused, without_room, with_room}
 use Rattle.reading.proofs.Flat.{numbers_count}
 use Rattle.reading.proofs.read.Goals as goal
 
--- the numbers of the sheet that was lent
-abbrev values : List ℕ → List ℤ
-values b = sheet_numbers (sheet_at b)
-
-pub returns-then-refusal-ne0 : goal.returns-then-refusal-ne0
-unfolding read_answer numbers_read read_refusal
-returns-then-refusal-ne0 c =
-    let both = refused (values c.args.sheet.now) _ c.sheet_refusal-refusal.ensures c.if-refusal-ne0.true c.refuse.ensures in
-    record { answer = both.0; list_after = both.1 }
-
-pub returns-then-numbers-count : goal.returns-then-numbers-count
-unfolding read_answer numbers_read read_refusal
-returns-then-numbers-count c =
-    let both =
-    without_room (values c.args.sheet.now) _ c.sheet_refusal-refusal.ensures c.if-refusal-ne0.false c.number_count-count.ensures
-    c.if-numbers-count.true c.refuse-then-numbers-count.ensures in
-    record { answer = both.0; list_after = both.1 }
-
 pub overflow_cast-result : goal.overflow_cast-result
 overflow_cast-result c =
-    let kept = sym c.sheet_refusal-refusal.ensures ∙ c.if-refusal-ne0.false in
+    let kept = sym c.in_ok-check_sheet.ensures in
     omega (arith, c.number_count-count.ensures, numbers_count _ kept, (headed _ kept).most)
-
-pub returns : goal.returns
-unfolding read_answer numbers_read read_refusal
-returns c =
-    let both =
-    with_room (values c.args.sheet.now) _ c.sheet_refusal-refusal.ensures c.if-refusal-ne0.false c.number_count-count.ensures
-    c.if-numbers-count.false refl c.fill_numbers.ensures in
-    record { answer = both.0; list_after = both.1 }

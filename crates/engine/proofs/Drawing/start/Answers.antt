@@ -1,37 +1,25 @@
 -- The three coordinates are checked by the reach of the degree at F, and what begins is the start of their control points.
+use mathlib.Core.Path.{◌≡◌, ap, ◌∙◌}
 use Prim.Native.Nat.{◌≤◌}
-use Rattle.rules.specs.declared.Degree.TheVariants.{Cubic}
-use Rattle.rules.specs.Rules.{most_reach}
+use Rattle.rules.specs.declared.Degree.{Degree}
+use Rattle.rules.specs.Rules.{most_reach, reach}
 use Rattle.rules.proofs.Reaches.{reach_most}
 use Rattle.engine.proofs.Begun.{checked_mild, start_by}
 use Rattle.engine.proofs.Drawing.start.Goals as goal
-use Rattle.engine.proofs.Drawing.start.Goals.{After-reach-reach}
-
--- the reach is at most that of the finest levels
-within : (c : After-reach-reach) → c.reach-reach.result ≤ most_reach Cubic
-within c = rw c.reach-reach.ensures (reach_most Cubic _)
-
-pub check_cubic-x-requires : goal.check_cubic-x-requires
-check_cubic-x-requires c = within c
-
-pub check_cubic-y-requires : goal.check_cubic-y-requires
-check_cubic-y-requires c = within (goal.at.check_cubic-y-requires c).After-reach-reach
-
-pub check_cubic-width-requires : goal.check_cubic-width-requires
-check_cubic-width-requires c = within (goal.at.check_cubic-width-requires c).After-reach-reach
 
 pub begin-requires : goal.begin-requires
-begin-requires c =
+begin-requires g c =
+    let D = g.C.Curve.degree in
     let W = c.reach-reach.result in
-    let a = c.args in
-    let most = within (goal.at.begin-requires c).After-reach-reach in (
-      checked_mild Cubic W a.x c.check_cubic-x.ensures most,
-      checked_mild Cubic W a.y c.check_cubic-y.ensures most,
-      checked_mild Cubic W a.width c.check_cubic-width.ensures most,
+    let most : W ≤ most_reach D = rw c.reach-reach.ensures (rw c.degree.ensures (reach_most D _)) in (
+      checked_mild D W (g.C.Curve.control c.args.x) c.check-x.ensures most,
+      checked_mild D W (g.C.Curve.control c.args.y) c.check-y.ensures most,
+      checked_mild D W (g.C.Curve.control c.args.width) c.check-width.ensures most,
     )
 
 pub returns : goal.returns
-returns c =
+returns g c =
     let a = c.args in
-    start_by Cubic a.finest a.x a.y a.width a.level c.reach-reach.result c.reach-reach.ensures c.check_cubic-x.ensures
-    c.check_cubic-y.ensures c.check_cubic-width.ensures c.begin.ensures
+    start_by g.C.Curve.degree a.finest (g.C.Curve.control a.x) (g.C.Curve.control a.y) (g.C.Curve.control a.width) a.level c.reach-reach.result
+    (c.reach-reach.ensures ∙ ap (λ (D : Degree). reach D a.finest) c.degree.ensures)
+    c.check-x.ensures c.check-y.ensures c.check-width.ensures c.begin.ensures

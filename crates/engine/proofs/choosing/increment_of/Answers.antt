@@ -1,16 +1,19 @@
 -- The shifted c, in magnitude.
 use mathlib.Core.Path.{sym, ap, ◌∙◌}
 use lib.IntN.{ℤ, nat_abs}
-use mir.Syntax.{w32, w64}
-use Rattle.numbers.proofs.Machine.{Num, field, kept, local, shift, shift_fits}
+use mir.Syntax.{w32}
+use Rattle.numbers.proofs.Machine.{Num, field, kept, shift, shift_fits}
 use Rattle.coordinate.specs.Registers.{◌>>◌}
 use Rattle.coordinate.specs.Increment.{increment}
+use Rattle.engine.proofs.Fitting.{held}
 use Rattle.engine.proofs.choosing.increment_of.Goals as goal
-use Rattle.engine.proofs.choosing.increment_of.Goals.{Start}
+use Rattle.engine.proofs.choosing.increment_of.Goals.{After-from}
 
-abbrev shifted : (c : Start) → Num 2147483648 (c.args.c >> c.args.n)
-shifted c = kept w32 (shift_fits c.args.n c.ranges.c) (shift c.args.n (field c.ranges.c))
+abbrev shifted : (c : After-from) → Num 2147483648 (c.args.c >> c.args.n)
+shifted c =
+    let small = shift_fits c.args.n c.ranges.c in
+    held c.from.result small (c.from.ensures ∙ (kept w32 small (shift c.args.n (field c.ranges.c))).is)
 
 pub returns : goal.returns
 unfolding increment
-returns c r is = c.magnitude.ensures ∙ ap nat_abs ((local w64 tt (shifted (goal.at.returns c).Start)).is ∙ ap (λ (z : ℤ). z >> c.args.n) (sym is))
+returns c r is = c.unsigned_abs.ensures.value ∙ ap nat_abs ((shifted (goal.at.returns c).After-from).is ∙ ap (λ (z : ℤ). z >> c.args.n) (sym is))

@@ -1,32 +1,28 @@
--- The calls of `fit` are the test of `registers_refusal`.
-use mathlib.Core.Path.{◌≡◌, sym, ◌∙◌}
-use mathlib.Core.Bool.{true, ◌&&◌}
-use Rattle.coordinate.specs.declared.Registers.{Registers}
-use Rattle.coordinate.specs.Registers.{are_registers}
-use Rattle.operations.specs.Coordinates.{Coordinate, in_x, in_y, in_width, pick, every}
+-- The registers fit exactly where all three are narrowed: that is the test of `registers_refusal`.
+use Rattle.std.specs.Prelude.{Err}
+use Rattle.operations.specs.Coordinates.{every}
 use Rattle.operations.specs.Refusals.{registers_refusal}
-use Rattle.operations.proofs.Every.{every_true}
 use Rattle.engine.specs.Drawing.{landed}
-use Rattle.engine.specs.Wide.{narrowed}
+use Rattle.engine.specs.Wide.{Narrows}
 use Rattle.engine.proofs.turning.land.Goals as goal
-use Rattle.engine.proofs.turning.land.Goals.{After-fit-3}
+use Rattle.engine.proofs.turning.land.Goals.{in_default-via-in-Ok+in-Ok+in_default, in_default-via-in-Ok+in_default, in_default-via-in_default}
 
-abbrev new : After-fit-3 → Coordinate → Registers
-new c = let a = c.args in pick (narrowed a.x) (narrowed a.y) (narrowed a.width)
-
-fit_all : (c : After-fit-3) → every (λ k. are_registers (new c k)) ≡ (c.fit.result && c.fit-2.result && c.fit-3.result)
-unfolding every
-fit_all c = λ i. sym c.fit.ensures i && sym c.fit-2.ensures i && sym c.fit-3.ensures i
-
-fits : (c : After-fit-3) → (c.fit.result && c.fit-2.result && c.fit-3.result) ≡ true → (k : Coordinate) → are_registers (new c k) ≡ true
-fits c t = every_true (λ k. are_registers (new c k)) (fit_all c ∙ t)
-
-pub returns-then-all_fit : goal.returns-then-all_fit
+pub returns-in-Ok-Ok-Ok : goal.returns-in-Ok-Ok-Ok
 unfolding landed registers_refusal every
-returns-then-all_fit c =
-    let f = fits (goal.at.returns-then-all_fit c).After-fit-3 c.if-all_fit.true in
-    simp (c.narrow-then-all_fit-2.ensures, c.narrow-then-all_fit.ensures, c.narrow.ensures, f in_x, f in_y, f in_width)
+returns-in-Ok-Ok-Ok c =
+    let x = c.in-Ok-Ok-Ok.ensures in
+    let y = c.in-Ok-Ok-Ok.ensures' in
+    let width = c.in-Ok-Ok-Ok.ensures'' in
+    simp (x.1, y.1, width.1, x.0, y.0, width.0)
 
-pub returns : goal.returns
+pub returns-in_default : goal.returns-in_default
 unfolding landed registers_refusal every
-returns c = c.refuse.ensures ∙ simp (fit_all (goal.at.returns c).After-fit-3 ∙ c.if-all_fit.false)
+returns-in_default c = elim c.in_default.branch [
+  | in_default-via-in-Ok+in-Ok+in_default w ↦ simp (c.refuse.ensures, w.in_default.ensures.0, w.in_default.ensures'.0, w.in_default.ensures'')
+  | in_default-via-in-Ok+in_default w ↦
+    let y : Narrows c.args.y (Err w.in_default.field-0-1) = rw w.in_default.is-1 at c.try_from-2.ensures in
+    simp (c.refuse.ensures, w.in_default.ensures.0, y)
+  | in_default-via-in_default w ↦
+    let x : Narrows c.args.x (Err w.in_default.field-0-0) = rw w.in_default.is-0 at c.try_from.ensures in
+    simp (c.refuse.ensures, x)
+]
