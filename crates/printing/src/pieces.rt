@@ -52,7 +52,13 @@ fn draw_segment(path: Listed, k: u32, list: &mut [i32]) -> Result<Totals, Refusa
     ensures answer { answered result ≡ drawn (alone (path_in path.numbers.now path.at) k) (length list.old) }
     ensures list_after { list.new ≡ written (alone (path_in path.numbers.now path.at) k) list.old }
 {
-    draw_alone(path.points(), path.shape(), limits_of(path.numbers), k, list)
+    draw_alone(
+        path.points(),
+        path.shape(),
+        limits_of(path.numbers),
+        k,
+        list,
+    )
 }
 
 // Draws segment k of a path.
