@@ -45,7 +45,7 @@ pub fn print(sheet: &[u8]) -> Output
             Output {
                 verdict: Err(refusal),
                 count: text.at,
-                whole: hand_over(&mut text, true),
+                whole: hand_over(&text, true),
             }
         }
     }
@@ -98,6 +98,7 @@ fn print_paths(numbers: &[i32], list: &mut [i32], text: &mut Text) -> Output
         segment: 0,
     };
     while place.path < paths {
+        text.at = 0;
         place = piece_at(numbers, place, list, text);
         count += text.at;
         whole = hand_over(text, whole);
@@ -109,14 +110,9 @@ fn print_paths(numbers: &[i32], list: &mut [i32], text: &mut Text) -> Output
     }
 }
 
-// Hands the text over to standard output and empties it, unless something before it was not taken, and answers whether all was taken.
-fn hand_over(text: &mut Text, whole: bool) -> bool
-    requires { text.old.at ≤ length text.old.bytes.now }
-    ensures answer { whole ≡ false → result ≡ false }
-    ensures emptied { text.new.at ≡ 0 }
-    ensures lent { (text.new.bytes.now ≡ text.old.bytes.now) × (text.new.bytes.ghost_name ≡ text.old.bytes.ghost_name) }
+// Hands the text over to standard output, unless something before it was not taken, and answers whether all was taken.
+fn hand_over(text: &Text, whole: bool) -> bool
+    ensures { whole ≡ false → result ≡ false }
 {
-    let end = text.at;
-    text.at = 0;
-    whole && io::write_all(STDOUT_FILENO, &text.bytes[..end])
+    whole && io::write_all(STDOUT_FILENO, text.filled())
 }

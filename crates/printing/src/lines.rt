@@ -50,15 +50,15 @@ fn put_entry(e: Entry, k: u32, text: &mut Text)
     ensures { Gains text.old (entry_line (shifted (2 ^ sheet_finest * k) e)) text.new }
 {
     put_followed(position_of(e, k), b" ", text);
-    put_followed(i64::from(e.x), b" ", text);
-    put_followed(i64::from(e.y), b" ", text);
-    put_followed(i64::from(e.width), b"\n", text);
+    put_followed(e.x as i64, b" ", text);
+    put_followed(e.y as i64, b" ", text);
+    put_followed(e.width as i64, b"\n", text);
 }
 
 fn position_of(e: Entry, k: u32) -> i64
     ensures { result ≡ (shifted (2 ^ sheet_finest * k) e).position }
 {
-    i64::from(e.position) + END * i64::from(k)
+    e.position as i64 + END * k as i64
 }
 
 // A number after its word.

@@ -16,6 +16,12 @@ use rules::{COORDINATES, Limits, Marked, Refusal, SHEET_FINEST};
 use sheet::PATH_HEAD;
 use text::Text;
 
+// Of a refused path nothing is counted.
+const NOTHING: Totals = Totals {
+    points: 0,
+    length: 0,
+};
+
 // The piece at a place is put where the text stands; the answer is the place after it. The segment's entries are drawn into `list`.
 pub(crate) fn piece_at(numbers: &[i32], place: Place, list: &mut [i32], text: &mut Text) -> Place
     requires inside { (place.path < 4294967295) × (place.at ≤ length numbers.now) × (length numbers.now ≤ most_numbers) }
@@ -29,7 +35,7 @@ pub(crate) fn piece_at(numbers: &[i32], place: Place, list: &mut [i32], text: &m
         at: place.at,
     };
     put_heading(path, place, text);
-    let drawn = draw_segment(path, place.segment, list).unwrap_or_default();
+    let drawn = draw_segment(path, place.segment, list).unwrap_or(NOTHING);
     // Where a later segment starts, the path has an entry already: the end of the segment before.
     let first = place.segment.min(1);
     put_entries(list, first, drawn.points, place.segment, text);
@@ -39,18 +45,18 @@ pub(crate) fn piece_at(numbers: &[i32], place: Place, list: &mut [i32], text: &m
 // The path's line before its first segment, nothing before the others.
 fn put_heading(path: Listed, place: Place, text: &mut Text)
     requires { (place.at ≡ path.at) × (text.old.at ≤ length text.old.bytes.now) }
-    ensures { Gains text.old (heading_at path.numbers.now place) text.new }
+    ensures { Gains text.old (heading_at path.entry.numbers.now place) text.new }
 {
     if place.segment == 0 {
         let whole = drawer::measure(path.points(), path.shape(), limits_of(path.numbers));
-        path_line(place.path, whole.unwrap_or_default(), text);
+        path_line(place.path, whole.unwrap_or(NOTHING), text);
     }
 }
 
 // Draws segment k of a path of the list.
 fn draw_segment(path: Listed, k: u32, list: &mut [i32]) -> Result<Totals, Refusal>
-    ensures answer { answered result ≡ drawn (alone (path_in path.numbers.now path.at) k) (length list.old) }
-    ensures list_after { list.new ≡ written (alone (path_in path.numbers.now path.at) k) list.old }
+    ensures answer { answered result ≡ drawn (alone (path_in path.entry.numbers.now path.entry.at) k) (length list.old) }
+    ensures list_after { list.new ≡ written (alone (path_in path.entry.numbers.now path.entry.at) k) list.old }
 {
     draw_alone(
         path.points(),
@@ -86,7 +92,7 @@ fn draw_alone(
 // The next segment of the path, or the next path.
 fn next_place(path: Listed, place: Place) -> Place
     requires { (place.path < 4294967295) × (place.at ≡ path.at) }
-    ensures { result ≡ next_place path.numbers.now place }
+    ensures { result ≡ next_place path.entry.numbers.now place }
 {
     if u64::from(place.segment) + 1 < u64::from(path.segments()) {
         return Place {
@@ -113,21 +119,21 @@ pub(crate) struct Listed<'a> {
 
 impl<'a> Listed<'a> {
     fn segments(self) -> u32
-        ensures { result ≡ number_at self.numbers.now self.at }
+        ensures { result ≡ number_at self.entry.numbers.now self.entry.at }
     {
         number_at(self.numbers, self.at)
     }
 
     // Its degree and start level.
     fn mark(self) -> Marked
-        ensures { result ≡ path_mark self.numbers.now self.at }
+        ensures { result ≡ path_mark self.entry.numbers.now self.entry.at }
     {
         Marked::from(number_at(self.numbers, self.at + 1))
     }
 
     // How it is drawn.
     fn shape(self) -> Shape
-        ensures { result ≡ shape_of (path_at self.numbers.now self.at) }
+        ensures { result ≡ shape_of (path_at self.entry.numbers.now self.entry.at) }
     {
         let marked = self.mark();
         let degree = marked.degree;
@@ -141,14 +147,14 @@ impl<'a> Listed<'a> {
 
     // Where its points end, as far as the list reaches.
     fn end(self) -> usize
-        ensures { result ≡ min (path_end self.numbers.now self.at) (length self.numbers.now) }
+        ensures { result ≡ min (path_end self.entry.numbers.now self.entry.at) (length self.entry.numbers.now) }
     {
         let size = rules::point_numbers(self.mark().degree, self.segments());
         (self.at + PATH_HEAD + size).min(self.numbers.len())
     }
 
     fn points(self) -> &'a [i32]
-        ensures { result.now ≡ (path_at self.numbers.now self.at).points }
+        ensures { result.now ≡ (path_at self.entry.numbers.now self.entry.at).points }
     {
         let from = (self.at + PATH_HEAD).min(self.numbers.len());
         &self.numbers[from..self.end()]
