@@ -11,12 +11,11 @@ use borrow.Author.Tests.{eqb-true, eqb-false}
 use Rattle.numbers.proofs.Tables.{tested}
 use Rattle.rules.proofs.Refusals.{among_all}
 use Rattle.path.proofs.Turns.{by_test}
-use Rattle.sheet.specs.declared.Written.{Written}
 use Rattle.sheet.specs.Bytes.{Bytes}
 use Rattle.sheet.specs.Sheet.{most_numbers, sheet_numbers}
 use Rattle.sheet.specs.Records.{sheet_at}
 use Rattle.sheet.specs.Reading.{sheet_refusal, read_refusal}
-use Rattle.sheet.specs.Answer.{read_table, read_answer}
+use Rattle.sheet.specs.Answer.{Written, read_table, read_answer}
 use Rattle.sheet.proofs.Room.{room_refused}
 use Rattle.sheet.proofs.RoundTrips.{room_for_every_sheet}
 use Rattle.sheet.proofs.Demand1.{read_refuses_as_tabled}

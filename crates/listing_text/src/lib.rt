@@ -1,13 +1,15 @@
 // What a listing is: its lines, and the pieces that it is printed in. There is no code here.
 #![tactic(auto)]
 
+use rules::Refusal;
+
 // A segment has at most 2^SHEET_FINEST + 1 entries: the numbers of its list.
 pub const SEGMENT_NUMBERS: usize = entries::ENTRY_SIZE * ((1 << rules::SHEET_FINEST) + 1);
 
-// What was printed: by what number the sheet is refused, 0 for none; how many bytes its listing has; and whether standard output took them all.
+// What was printed: whether the sheet is refused, and why; how many bytes its listing has; and whether standard output took them all.
 #[derive(Clone, Copy)]
 pub struct Output {
-    pub refusal: u32,
+    pub verdict: Result<(), Refusal>,
     pub count: usize,
     pub whole: bool,
 }
@@ -18,11 +20,4 @@ pub struct Place {
     pub path: u32,
     pub at: usize,
     pub segment: u32,
-}
-
-// A piece of a listing: how many bytes of text, and where the listing stands after it.
-#[derive(Clone, Copy)]
-pub struct Piece {
-    pub count: usize,
-    pub next: Place,
 }

@@ -14,7 +14,7 @@ pub struct Shape {
 }
 
 // What drawing and measuring a path answer where nothing refuses it: the number of points and the length.
-#[derive(Clone, Copy, Default)]
+#[derive(Clone, Copy)]
 pub struct Totals {
     pub points: u32,
     pub length: u32,

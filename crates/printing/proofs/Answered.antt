@@ -5,14 +5,13 @@ use Prim.Native.Nat.{ℕ, zero, suc, ◌≤◌}
 use native.Mathlib.Omega.{arith}
 use lib.IntN.{ℤ}
 use lib.ListN.{length, take, drop, length-append}
-use Rattle.sheet.specs.declared.Written.{Written}
 use Rattle.sheet.specs.Bytes.{Bytes}
 use Rattle.sheet.specs.Sheet.{most_numbers, sheet_bytes, sheet_numbers, Right}
 use Rattle.sheet.specs.Records.{sheet_at}
 use Rattle.sheet.specs.Reading.{sheet_refusal}
 use Rattle.sheet.specs.NumberList.{sheet_of}
 use Rattle.sheet.specs.Writing.{list_refusal}
-use Rattle.sheet.specs.Answer.{read_answer, numbers_read}
+use Rattle.sheet.specs.Answer.{Written, read_answer, numbers_read}
 use Rattle.sheet.proofs.Room.{front_answered}
 use Rattle.sheet.proofs.WritesBack.{writes_back}
 use Rattle.sheet.proofs.RoundTrips.{read_accepted, right_read}

@@ -15,7 +15,6 @@ use Rattle.sheet.proofs.NumberList.{count_paths}
 use Rattle.sheet.proofs.Writing.{listed}
 use Rattle.sheet.proofs.WritesOnly.{writes_only}
 use Rattle.listing_text.specs.declared.Place.{Place}
-use Rattle.listing_text.specs.declared.Piece.{Piece}
 use Rattle.listing_text.specs.Lines.{paths_word, end, named, paths_line}
 use Rattle.listing_text.specs.Listing.{sheet_text}
 use Rattle.listing_text.specs.Pieces.{segment_numbers, text_size, piece_text, next_place, first_place, Visits, pieces_text}
@@ -108,10 +107,10 @@ module _ (l : List ℤ) (e : list_refusal l ≡ 0) where
 
 pub piece_counted : {l : List ℤ} {N total : ℕ} {q : Place} {count : ℕ} → Coming l N total q count → q.path < N
     → (list : List ℤ) (t : List ℕ) → length list ≡ segment_numbers → length t ≡ text_size
-    → {p : Piece} → p.count ≡ reached t 0 (piece_text l q (length list)) → p.next ≡ next_place l q
-    → Coming l N total p.next (count + p.count) × (count + p.count ≤ total)
-piece_counted {l} {N} {total} {q} {count} c h list t room size {p} n next =
-    let text = subst (λ k. p.count ≡ reached t 0 (piece_text l q k)) room n in
+    → {next : Place} {k : ℕ} → k ≡ reached t 0 (piece_text l q (length list)) → next ≡ next_place l q
+    → Coming l N total next (count + k) × (count + k ≤ total)
+piece_counted {l} {N} {total} {q} {count} c h list t room size {next} {k} n e =
+    let text = subst (λ m. k ≡ reached t 0 (piece_text l q m)) room n in
     let bytes = text ∙ all_of t (piece_text l q segment_numbers) size (piece_short c h) in
-    let on : Coming l N total p.next (count + p.count) = rw (next, bytes) (coming_next c h) in
+    let on : Coming l N total next (count + k) = rw (e, bytes) (coming_next c h) in
     (on, omega (arith, on.sum))

@@ -2,3 +2,4 @@
 pub mod Reach
 pub mod Coming
 pub mod Answered
+mod Counted

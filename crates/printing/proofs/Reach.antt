@@ -10,6 +10,7 @@ use lib.Dec.{leb}
 use lib.ListN.{length, take, drop, length-drop, drop_of_length-le}
 use lib.IntN.{ℤ}
 use lib.Seq.{take_all, take-nil}
+use Rattle.std.proofs.lemmas.List.{length-take}
 use Rattle.rules.specs.declared.Limits.{Limits}
 use Rattle.rules.specs.Rules.{degree, coordinates}
 use Rattle.path.specs.declared.Shape.{Shape}
@@ -76,12 +77,18 @@ segment_part points shape limits k from to f t =
     let size = coordinates * (D + 1) in
     rw (t, f, cut_again start size (length points), part_reached points start size)
 
--- the path whose numbers start at `at`, by its points, its shape and the limits as they are read
-module _ (l : List ℤ) (at : ℕ) {from to : ℕ} (f : from ≡ min (at + path_head) (length l)) (t : to ≡ min (path_end l at) (length l)) where
-  points_read : take (to - from) (drop from l) ≡ (path_at l at).points
-  unfolding path_at
-  points_read = rw (t, f, part_reached l (at + path_head) (path_point_numbers l at))
+-- the points of the path whose numbers start at `at`
+pub points_read : (l : List ℤ) (at : ℕ) {from to : ℕ} → from ≡ min (at + path_head) (length l) → to ≡ min (path_end l at) (length l)
+    → take (to - from) (drop from l) ≡ (path_at l at).points
+unfolding path_at
+points_read l at f t = rw (t, f, part_reached l (at + path_head) (path_point_numbers l at))
 
-  pub path_by_numbers : {shape : Shape} {limits : Limits} → shape ≡ shape_of (path_at l at) → limits ≡ limits_of (sheet_of l)
-      → path (take (to - from) (drop from l)) shape limits ≡ path_in l at
-  path_by_numbers s o = rw (points_read, s, o)
+-- they are no more than the list has
+pub points_few : (l : List ℤ) (at : ℕ) → length (path_at l at).points ≤ length l
+unfolding path_at
+points_few l at = rw length-take (omega (arith, length-drop (at + path_head) l))
+
+-- that path, by its points, its shape and the limits as they are read
+pub path_read : (l : List ℤ) (at : ℕ) {points : List ℤ} {shape : Shape} {limits : Limits} → points ≡ (path_at l at).points
+    → shape ≡ shape_of (path_at l at) → limits ≡ limits_of (sheet_of l) → path points shape limits ≡ path_in l at
+path_read l at p s o = rw (p, s, o)

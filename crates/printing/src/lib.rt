@@ -6,6 +6,7 @@ mod lines;
 mod pieces;
 
 ghost use Rattle.std.specs.Prelude.{◌≡◌, false, ℕ, ◌≤◌, length, take};
+ghost use Rattle.rules.specs.Numbered.{refusal_of};
 ghost use Rattle.sheet.specs.Sheet.{most_numbers};
 ghost use Rattle.sheet.specs.NumberList.{sheet_of};
 ghost use Rattle.sheet.specs.Reading.{sheet_refusal};
@@ -17,6 +18,7 @@ use lines::put_line;
 use listing_text::{Output, Place, SEGMENT_NUMBERS};
 use pieces::{number_at, piece_at};
 use sheet::{LIST_HEAD, MOST_BYTES, MOST_NUMBERS};
+use text::Text;
 
 const STDIN_FILENO: i32 = 0;
 
@@ -24,29 +26,36 @@ const STDOUT_FILENO: i32 = 1;
 
 // Prints the listing of a sheet. Whether standard output took all of it, `whole`, no contract can say.
 pub fn print(sheet: &[u8]) -> Output
-    ensures refusal { result.refusal ≡ sheet_refusal sheet.now }
+    ensures verdict { refusal_of result.verdict ≡ sheet_refusal sheet.now }
     ensures count { result.count ≡ length (listing sheet.now) }
 {
     let mut numbers = number_buffer();
-    let mut text = io::large_buffer();
-    let answer = reading::read(sheet, &mut numbers);
-    if answer.refusal != 0 {
-        let count = put_line(b"refused ", answer.refusal, &mut text);
-        return Output {
-            refusal: answer.refusal,
-            count: count,
-            whole: hand_over(&text[..count], true),
-        };
+    let mut buffer = io::large_buffer();
+    let mut text = Text {
+        bytes: &mut buffer,
+        at: 0,
+    };
+    match reading::read(sheet, &mut numbers) {
+        Ok(count) => {
+            let mut list = list_buffer();
+            print_paths(&numbers[..count as usize], &mut list, &mut text)
+        }
+        Err(refusal) => {
+            put_line(b"refused ", refusal.number(), &mut text);
+            Output {
+                verdict: Err(refusal),
+                count: text.at,
+                whole: hand_over(&text, true),
+            }
+        }
     }
-    let mut list = list_buffer();
-    print_paths(&numbers[..answer.count as usize], &mut list, &mut text)
 }
 
 // Reads standard input into a lent buffer, until it is full or the input ends, and prints the listing of what was read: the first n bytes
 // of the buffer as it is left.
 pub fn print_input(sheet: &mut [u8]) -> Output
     ensures { (n : ℕ) × (n ≤ length sheet.new)
-        × (result.refusal ≡ sheet_refusal (take n sheet.new)) × (result.count ≡ length (listing (take n sheet.new))) }
+        × (refusal_of result.verdict ≡ sheet_refusal (take n sheet.new)) × (result.count ≡ length (listing (take n sheet.new))) }
 {
     let n = io::read_full(STDIN_FILENO, sheet);
     print(&sheet[..n])
@@ -74,39 +83,36 @@ fn list_buffer() -> [i32; SEGMENT_NUMBERS]
 }
 
 // Prints an accepted number list, a piece at a time.
-fn print_paths(numbers: &[i32], list: &mut [i32], text: &mut [u8]) -> Output
+fn print_paths(numbers: &[i32], list: &mut [i32], text: &mut Text) -> Output
     requires accepted { (list_refusal numbers.now ≡ 0) × (length numbers.now ≤ most_numbers) }
-    requires room { (length list.old ≡ segment_numbers) × (length text.old ≡ text_size) }
-    ensures { (result.refusal ≡ 0) × (result.count ≡ length (sheet_text (sheet_of numbers.now))) }
+    requires room { (length list.old ≡ segment_numbers) × (length text.old.bytes.now ≡ text_size) × (text.old.at ≡ 0) }
+    ensures { (refusal_of result.verdict ≡ 0) × (result.count ≡ length (sheet_text (sheet_of numbers.now))) }
 {
     let paths = number_at(numbers, 0);
-    let mut count = put_line(b"paths ", paths, text);
-    let mut whole = hand_over(&text[..count], true);
+    put_line(b"paths ", paths, text);
+    let mut count = text.at;
+    let mut whole = hand_over(text, true);
     let mut place = Place {
         path: 0,
         at: LIST_HEAD,
         segment: 0,
     };
     while place.path < paths {
-        let piece = piece_at(numbers, place, list, text);
-        let size = piece.count;
-        whole = hand_over(&text[..size], whole);
-        count += size;
-        place = piece.next;
+        text.at = 0;
+        place = piece_at(numbers, place, list, text);
+        count += text.at;
+        whole = hand_over(text, whole);
     }
     Output {
-        refusal: 0,
+        verdict: Ok(()),
         count: count,
         whole: whole,
     }
 }
 
-// Hands text over to standard output, unless something before it was not taken, and answers whether all was taken.
-fn hand_over(text: &[u8], whole: bool) -> bool
+// Hands the text over to standard output, unless something before it was not taken, and answers whether all was taken.
+fn hand_over(text: &Text, whole: bool) -> bool
     ensures { whole ≡ false → result ≡ false }
 {
-    if whole {
-        return io::write_all(STDOUT_FILENO, text);
-    }
-    false
+    whole && io::write_all(STDOUT_FILENO, text.filled())
 }

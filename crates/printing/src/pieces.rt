@@ -1,158 +1,164 @@
 // A piece of a listing: one segment of a path, after the path's line where it is the first; and the place after it.
-ghost use Rattle.std.specs.Prelude.{◌≡◌, ◌+◌, ◌≤◌, ◌<◌, min, length};
-ghost use Rattle.std.proofs.lemmas.List.Edits.{sets};
+ghost use Rattle.std.specs.Prelude.{◌≡◌, ◌≤◌, ◌<◌, min, length};
 ghost use Rattle.path.specs.Path.{path};
 ghost use Rattle.path.specs.Joined.{alone};
-ghost use Rattle.path.specs.Answer.{drawn, written};
-ghost use Rattle.sheet.specs.Sheet.{most_numbers, path_head};
+ghost use Rattle.path.specs.Answer.{answered, drawn, written};
+ghost use Rattle.sheet.specs.Sheet.{most_numbers};
 ghost use Rattle.sheet.specs.NumberList.{number_at, path_mark, path_at, path_end, sheet_of};
-ghost use Rattle.text.specs.Reached.{reached};
+ghost use Rattle.text.specs.Reached.{Gains};
 ghost use Rattle.listing_text.specs.Listing.{shape_of, limits_of};
-ghost use Rattle.listing_text.specs.Pieces.{segment_at, heading_at, piece_text, next_place};
+ghost use Rattle.listing_text.specs.Pieces.{path_in, segment_at, heading_at, piece_text, next_place};
 
 use crate::lines::{path_line, put_entries};
-use listing_text::{Piece, Place};
-use path::{Drawn, Shape};
-use rules::{COORDINATES, Limits, Marked, SHEET_FINEST};
+use listing_text::Place;
+use path::{Shape, Totals};
+use rules::{COORDINATES, Limits, Marked, Refusal, SHEET_FINEST};
 use sheet::PATH_HEAD;
+use text::Text;
 
-// The piece at a place, from the front of `text` on. The segment's entries are drawn into `list`.
-pub(crate) fn piece_at(numbers: &[i32], place: Place, list: &mut [i32], text: &mut [u8]) -> Piece
-    requires { (place.path < 4294967295) × (place.at ≤ length numbers.now) × (length numbers.now ≤ most_numbers) }
-    ensures count { result.count ≡ reached text.old 0 (piece_text numbers.now place (length list.old)) }
-    ensures next { result.next ≡ next_place numbers.now place }
-    ensures text_after { text.new ≡ sets text.old 0 (piece_text numbers.now place (length list.old)) }
+// Of a refused path nothing is counted.
+const NOTHING: Totals = Totals {
+    points: 0,
+    length: 0,
+};
+
+// The piece at a place is put where the text stands; the answer is the place after it. The segment's entries are drawn into `list`.
+pub(crate) fn piece_at(numbers: &[i32], place: Place, list: &mut [i32], text: &mut Text) -> Place
+    requires inside { (place.path < 4294967295) × (place.at ≤ length numbers.now) × (length numbers.now ≤ most_numbers) }
+    requires room { text.old.at ≤ length text.old.bytes.now }
+    ensures next { result ≡ next_place numbers.now place }
+    ensures text_after { Gains text.old (piece_text numbers.now place (length list.old)) text.new }
     ensures list_after { list.new ≡ written (segment_at numbers.now place) list.old }
 {
-    let segment = place.segment;
-    let at = put_heading(numbers, place, text);
-    let drawn = draw_segment(numbers, place, list);
-    let count = put_entries(list, first_entry(segment), drawn.points, segment, text, at);
-    Piece {
-        count: count,
-        next: next_place(numbers, place),
-    }
-}
-
-// Where segment k starts, the path has an entry already but for the first: the end of the segment before.
-fn first_entry(k: u32) -> u32
-    ensures { result ≡ min k 1 }
-{
-    if k == 0 { 0 } else { 1 }
+    let path = Listed {
+        numbers: numbers,
+        at: place.at,
+    };
+    put_heading(path, place, text);
+    let drawn = draw_segment(path, place.segment, list).unwrap_or(NOTHING);
+    // Where a later segment starts, the path has an entry already: the end of the segment before.
+    let first = place.segment.min(1);
+    put_entries(list, first, drawn.points, place.segment, text);
+    next_place(path, place)
 }
 
 // The path's line before its first segment, nothing before the others.
-fn put_heading(numbers: &[i32], place: Place, text: &mut [u8]) -> usize
-    requires { (place.at ≤ length numbers.now) × (length numbers.now ≤ most_numbers) }
-    ensures value { result ≡ reached text.old 0 (heading_at numbers.now place) }
-    ensures text_after { text.new ≡ sets text.old 0 (heading_at numbers.now place) }
+fn put_heading(path: Listed, place: Place, text: &mut Text)
+    requires { (place.at ≡ path.at) × (text.old.at ≤ length text.old.bytes.now) }
+    ensures { Gains text.old (heading_at path.entry.numbers.now place) text.new }
 {
-    let path = place.path;
-    let at = place.at;
-    if place.segment != 0 {
-        return 0;
+    if place.segment == 0 {
+        let whole = drawer::measure(path.points(), path.shape(), limits_of(path.numbers));
+        path_line(place.path, whole.unwrap_or(NOTHING), text);
     }
-    let from = points_start(numbers, at);
-    let to = points_end(numbers, at);
-    let whole = drawer::measure(
-        &numbers[from..to],
-        shape_at(numbers, at),
-        limits_of(numbers),
-    );
-    path_line(path, whole, text)
 }
 
-// Draws the segment at a place as a path of its own.
-fn draw_segment(numbers: &[i32], place: Place, list: &mut [i32]) -> Drawn
-    requires { (place.at ≤ length numbers.now) × (length numbers.now ≤ most_numbers) }
-    ensures value { result ≡ drawn (segment_at numbers.now place) (length list.old) }
-    ensures list_after { list.new ≡ written (segment_at numbers.now place) list.old }
+// Draws segment k of a path of the list.
+fn draw_segment(path: Listed, k: u32, list: &mut [i32]) -> Result<Totals, Refusal>
+    ensures answer { answered result ≡ drawn (alone (path_in path.entry.numbers.now path.entry.at) k) (length list.old) }
+    ensures list_after { list.new ≡ written (alone (path_in path.entry.numbers.now path.entry.at) k) list.old }
 {
-    let segment = place.segment;
-    let at = place.at;
-    let from = points_start(numbers, at);
-    let to = points_end(numbers, at);
-    let shape = shape_at(numbers, at);
-    let limits = limits_of(numbers);
-    draw_alone(&numbers[from..to], shape, limits, segment, list)
+    draw_alone(
+        path.points(),
+        path.shape(),
+        limits_of(path.numbers),
+        k,
+        list,
+    )
 }
 
 // Draws segment k of a path.
-fn draw_alone(points: &[i32], shape: Shape, limits: Limits, k: u32, list: &mut [i32]) -> Drawn
+fn draw_alone(
+    points: &[i32],
+    shape: Shape,
+    limits: Limits,
+    k: u32,
+    list: &mut [i32],
+) -> Result<Totals, Refusal>
     requires { length points.now ≤ most_numbers }
-    ensures value { result ≡ drawn (alone (path points.now shape limits) k) (length list.old) }
+    ensures answer { answered result ≡ drawn (alone (path points.now shape limits) k) (length list.old) }
     ensures list_after { list.new ≡ written (alone (path points.now shape limits) k) list.old }
 {
-    let degree = shape.degree;
-    let each = degree.number() as usize;
-    let from = least(COORDINATES * (each * k as usize), points.len());
-    let to = least(from + COORDINATES * (each + 1), points.len());
+    let each = shape.degree.number() as usize;
+    let from = (COORDINATES * (each * k as usize)).min(points.len());
+    let to = (from + COORDINATES * (each + 1)).min(points.len());
     let one = Shape {
-        degree: degree,
         segments: 1,
-        finest: shape.finest,
-        level: shape.level,
+        ..shape
     };
     drawer::draw(&points[from..to], one, limits, list)
 }
 
 // The next segment of the path, or the next path.
-fn next_place(numbers: &[i32], place: Place) -> Place
-    requires { (place.path < 4294967295) × (place.at ≤ length numbers.now) × (length numbers.now ≤ most_numbers) }
-    ensures { result ≡ next_place numbers.now place }
+fn next_place(path: Listed, place: Place) -> Place
+    requires { (place.path < 4294967295) × (place.at ≡ path.at) }
+    ensures { result ≡ next_place path.entry.numbers.now place }
 {
-    let path = place.path;
-    let at = place.at;
-    let segment = place.segment;
-    let segments = number_at(numbers, at);
-    let following = segment as u64 + 1;
-    if following < segments as u64 {
+    if u64::from(place.segment) + 1 < u64::from(path.segments()) {
         return Place {
-            path: path,
-            at: at,
-            segment: following as u32,
+            segment: place.segment + 1,
+            ..place
         };
     }
     Place {
-        path: path + 1,
-        at: points_end(numbers, at),
+        path: place.path + 1,
+        at: path.end(),
         segment: 0,
     }
 }
 
 // ---- the numbers of a path
 
-// A count, a limit, segments or a mark: number i of a list, 0 past its end.
-pub(crate) fn number_at(numbers: &[i32], i: usize) -> u32
-    ensures { result ≡ number_at numbers.now i }
-{
-    if i < numbers.len() {
-        return rules::natural(numbers[i]);
-    }
-    0
+// A path of a number list: its numbers start at number `at`.
+#[derive(Clone, Copy)]
+pub(crate) struct Listed<'a> {
+    pub(crate) numbers: &'a [i32],
+    pub(crate) at: usize,
+    ghost inside: { (at ≤ length numbers.now) × (length numbers.now ≤ most_numbers) },
 }
 
-// How the path at `at` is drawn, and the limits of every path.
-fn shape_at(numbers: &[i32], at: usize) -> Shape
-    requires { (at ≤ length numbers.now) × (length numbers.now ≤ most_numbers) }
-    ensures { result ≡ shape_of (path_at numbers.now at) }
-{
-    let marked = mark_at(numbers, at);
-    let degree = marked.degree;
-    Shape {
-        degree: degree,
-        segments: number_at(numbers, at),
-        finest: SHEET_FINEST,
-        level: marked.level,
+impl<'a> Listed<'a> {
+    fn segments(self) -> u32
+        ensures { result ≡ number_at self.entry.numbers.now self.entry.at }
+    {
+        number_at(self.numbers, self.at)
     }
-}
 
-// The degree and the start level of the path at `at`.
-fn mark_at(numbers: &[i32], at: usize) -> Marked
-    requires { (at ≤ length numbers.now) × (length numbers.now ≤ most_numbers) }
-    ensures { result ≡ path_mark numbers.now at }
-{
-    Marked::by(number_at(numbers, at + 1))
+    // Its degree and start level.
+    fn mark(self) -> Marked
+        ensures { result ≡ path_mark self.entry.numbers.now self.entry.at }
+    {
+        Marked::from(number_at(self.numbers, self.at + 1))
+    }
+
+    // How it is drawn.
+    fn shape(self) -> Shape
+        ensures { result ≡ shape_of (path_at self.entry.numbers.now self.entry.at) }
+    {
+        let marked = self.mark();
+        let degree = marked.degree;
+        Shape {
+            degree: degree,
+            segments: self.segments(),
+            finest: SHEET_FINEST,
+            level: marked.level,
+        }
+    }
+
+    // Where its points end, as far as the list reaches.
+    fn end(self) -> usize
+        ensures { result ≡ min (path_end self.entry.numbers.now self.entry.at) (length self.entry.numbers.now) }
+    {
+        let size = rules::point_numbers(self.mark().degree, self.segments());
+        (self.at + PATH_HEAD + size).min(self.numbers.len())
+    }
+
+    fn points(self) -> &'a [i32]
+        ensures { result.now ≡ (path_at self.entry.numbers.now self.entry.at).points }
+    {
+        let from = (self.at + PATH_HEAD).min(self.numbers.len());
+        &self.numbers[from..self.end()]
+    }
 }
 
 fn limits_of(numbers: &[i32]) -> Limits
@@ -164,25 +170,9 @@ fn limits_of(numbers: &[i32]) -> Limits
     }
 }
 
-// Where the points of the path at `at` start and end, as far as the list reaches.
-fn points_start(numbers: &[i32], at: usize) -> usize
-    requires { (at ≤ length numbers.now) × (length numbers.now ≤ most_numbers) }
-    ensures { result ≡ min (at + path_head) (length numbers.now) }
+// A count, a limit, segments or a mark: number i of a list, 0 past its end.
+pub(crate) fn number_at(numbers: &[i32], i: usize) -> u32
+    ensures { result ≡ number_at numbers.now i }
 {
-    least(at + PATH_HEAD, numbers.len())
-}
-
-fn points_end(numbers: &[i32], at: usize) -> usize
-    requires { (at ≤ length numbers.now) × (length numbers.now ≤ most_numbers) }
-    ensures { result ≡ min (path_end numbers.now at) (length numbers.now) }
-{
-    let degree = mark_at(numbers, at).degree;
-    let size = rules::point_numbers(degree, number_at(numbers, at));
-    least(at + PATH_HEAD + size, numbers.len())
-}
-
-fn least(a: usize, b: usize) -> usize
-    ensures { result ≡ min a b }
-{
-    if a < b { a } else { b }
+    numbers.get(i).map_or(0, |&z| rules::natural(z))
 }

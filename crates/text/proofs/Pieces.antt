@@ -75,28 +75,27 @@ gains_inside {t} {a = a} g = put_inside t.bytes.now t.at a g.put
 pub gains_size : {t u : Text} {a : List ℕ} → Gains t a u → length u.bytes.now ≡ length t.bytes.now
 gains_size {t} {a = a} g = ap length g.put.1 ∙ length-sets t.bytes.now t.at a
 
--- text t, filled up to place i and with `rest` to come, is text t₀ with `all` to come from place `at` on
-pub record Gathered (t : List ℕ) (i : ℕ) (rest : List ℕ) (t₀ : List ℕ) (at : ℕ) (all : List ℕ) : Type 0 where
-  pub size : length t ≡ length t₀
-  pub inside : i ≤ length t
-  pub place : reached t i rest ≡ reached t₀ at all
-  pub text : sets t i rest ≡ sets t₀ at all
+-- a text, with `rest` to come, is text `start` with `all` to come
+pub record Gathers (now : Text) (rest : List ℕ) (start : Text) (all : List ℕ) : Type 0 where
+  pub size : length now.bytes.now ≡ length start.bytes.now
+  pub inside : now.at ≤ length now.bytes.now
+  pub place : reached now.bytes.now now.at rest ≡ reached start.bytes.now start.at all
+  pub bytes : sets now.bytes.now now.at rest ≡ sets start.bytes.now start.at all
+  pub lent : now.bytes.ghost_name ≡ start.bytes.ghost_name
 
-pub gathered_none : (t : List ℕ) (at : ℕ) (all : List ℕ) → at ≤ length t → Gathered t at all t at all
-gathered_none t at all h = record { size = refl; inside = h; place = refl; text = refl }
+pub gathers_none : (t : Text) (all : List ℕ) → t.at ≤ length t.bytes.now → Gathers t all t all
+gathers_none t all h = record { size = refl; inside = h; place = refl; bytes = refl; lent = refl }
 
-pub gathered_more : {t u t₀ : List ℕ} {i j at : ℕ} {all : List ℕ} (a rest : List ℕ) → Gathered t i (a ++ rest) t₀ at all → Put t i a j u
-    → Gathered u j rest t₀ at all
+pub gathers_more : {t u start : Text} {all : List ℕ} (a rest : List ℕ) → Gathers t (a ++ rest) start all → Gains t a u → Gathers u rest start all
+gathers_more {t} {u} a rest g p =
+    record {
+      size = gains_size p ∙ g.size;
+      inside = gains_inside p;
+      place = rw (p.put.0, p.put.1) (reached_after t.bytes.now t.at a rest ∙ g.place);
+      bytes = rw (p.put.0, p.put.1) (put_after t.bytes.now t.at a rest ∙ g.bytes);
+      lent = p.lent ∙ g.lent;
+    }
+
+pub gathers_all : {t start : Text} {all : List ℕ} → Gathers t [] start all → Gains start all t
 unfolding reached
-gathered_more {t} {i = i} a rest g p =
-    let size = length-sets t i a in
-    rw (p.0, p.1) (record {
-      size = size ∙ g.size;
-      inside = omega (arith, size);
-      place = reached_after t i a rest ∙ g.place;
-      text = put_after t i a rest ∙ g.text;
-    })
-
-pub gathered_all : {t t₀ : List ℕ} {i at : ℕ} {all : List ℕ} → Gathered t i [] t₀ at all → Put t₀ at all i t
-unfolding reached
-gathered_all {t} {i = i} g = (omega (arith, g.inside) ∙ g.place, g.text)
+gathers_all g = record { put = (omega (arith, g.inside) ∙ g.place, g.bytes); lent = g.lent }

@@ -1,6 +1,7 @@
 // Text gathered in a lent buffer, piece after piece, each where the one before it ended.
 #![tactic(auto)]
 
+ghost use Rattle.std.specs.Prelude.{◌≡◌, take};
 ghost use Rattle.text.specs.Decimal.{decimal, numeral};
 ghost use Rattle.text.specs.Reached.{Gains};
 
@@ -44,5 +45,12 @@ impl<'a> Text<'a> {
             self.put(b"-");
         }
         self.put_count(z.unsigned_abs());
+    }
+
+    // What was put.
+    pub fn filled(&self) -> &[u8]
+        ensures { result.now ≡ take self.now.at self.now.bytes.now }
+    {
+        &self.bytes[..self.at.min(self.bytes.len())]
     }
 }

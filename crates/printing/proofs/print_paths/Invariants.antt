@@ -15,7 +15,7 @@ left paths q = (paths - q.path) * 4294967296 + (4294967296 - q.segment)
 
 abbrev pub invariant-loop-place : goal.invariant-loop-place
 invariant-loop-place l =
-    (l.place.at ≤ length l.numbers) × (length l.list ≡ segment_numbers) × (length l.text ≡ text_size)
+    (l.place.at ≤ length l.numbers) × (length l.list ≡ segment_numbers) × (length l.text.bytes.now ≡ text_size)
     × Coming l.numbers l.paths (length (sheet_text (sheet_of l.numbers))) l.place l.count
 
 abbrev pub decreases-loop-place : goal.decreases-loop-place

@@ -1,16 +1,30 @@
--- The numbers of the path are read where they stand, and its points as far as the list reaches.
-use mathlib.Core.Path.{ap}
-use Rattle.path.specs.Path.{Path}
+-- What is drawn are the points, the shape and the limits that are read.
+use mathlib.Core.Path.{◌≡◌, ap}
+use native.Mathlib.Omega.{arith}
+use Rattle.path.specs.Path.{Path, path}
 use Rattle.path.specs.Joined.{alone}
+use Rattle.listing_text.specs.Pieces.{path_in}
 use Rattle.listing_text.proofs.Drawn.{drawn_same}
-use Rattle.printing.proofs.Reach.{path_by_numbers}
+use Rattle.printing.proofs.Reach.{points_few, path_read}
 use Rattle.printing.proofs.pieces.draw_segment.Goals as goal
+use Rattle.printing.proofs.pieces.draw_segment.Goals.{After-limits_of}
 
-pub returns : goal.returns
-returns c =
-    let a = c.args in
-    let found = path_by_numbers a.numbers.now a.place.at c.points_start-from.ensures c.points_end-to.ensures in
-    let same = found c.shape_at-shape.ensures c.limits_of-limits.ensures in
+read : (c : After-limits_of) → path c.points.result.now c.shape.result c.limits_of.result ≡ path_in c.args.path.numbers.now c.args.path.at
+read c = path_read c.args.path.numbers.now c.args.path.at c.points.ensures c.shape.ensures c.limits_of.ensures
+
+pub draw_alone-requires : goal.draw_alone-requires
+draw_alone-requires c =
+    let l = c.args.path in
+    rw c.points.ensures (omega (arith, points_few l.numbers.now l.at, l.inside))
+
+pub returns-clause-answer : goal.returns-clause-answer
+returns-clause-answer c =
     let d = c.draw_alone.ensures in
-    let both = drawn_same a.list.now (ap (λ (p : Path). alone p a.place.segment) same) d.value d.list_after in
-    record { value = both.0; list_after = both.1 }
+    let same = ap (λ (p : Path). alone p c.args.k) (read (goal.at.returns-clause-answer c).After-limits_of) in
+    (drawn_same c.args.list.now same d.answer d.list_after).0
+
+pub returns-clause-list_after : goal.returns-clause-list_after
+returns-clause-list_after c =
+    let d = c.draw_alone.ensures in
+    let same = ap (λ (p : Path). alone p c.args.k) (read (goal.at.returns-clause-list_after c).After-limits_of) in
+    (drawn_same c.args.list.now same d.answer d.list_after).1

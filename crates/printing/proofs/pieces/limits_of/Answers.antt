@@ -4,4 +4,4 @@ use Rattle.printing.proofs.pieces.limits_of.Goals as goal
 
 pub returns : goal.returns
 unfolding sheet_of
-returns c = cc
+returns c = λ i. record { upper = c.number_at.ensures i; lower = c.number_at-2.ensures i }
