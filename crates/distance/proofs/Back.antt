@@ -14,7 +14,7 @@ use Rattle.operations.specs.Coordinates.{Coordinate, in_x, in_y, in_width}
 use Rattle.operations.specs.Position.{stride, is_aligned}
 use Rattle.operations.proofs.Stays.{two_finer}
 use Rattle.engine.specs.declared.Drawing.{Drawing}
-use Rattle.engine.specs.declared.Moved.{Moved}
+use Rattle.engine.specs.Moved.{Moved}
 use Rattle.coordinate.specs.Curve.{Curve}
 use Rattle.coordinate.specs.Registers.{halve, double, turn}
 use Rattle.engine.specs.Drawing.{turned, moved, called, of}

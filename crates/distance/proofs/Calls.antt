@@ -11,7 +11,7 @@ use Rattle.rules.proofs.Laws.{Fine}
 use Rattle.operations.specs.Coordinates.{Coordinate}
 use Rattle.operations.specs.Position.{stride}
 use Rattle.engine.specs.declared.Drawing.{Drawing}
-use Rattle.engine.specs.declared.Moved.{Moved}
+use Rattle.engine.specs.Moved.{Moved}
 use Rattle.coordinate.specs.Curve.{Curve}
 use Rattle.coordinate.specs.Registers.{Operation, halve, double, step}
 use Rattle.engine.specs.Drawing.{turned, moved, called}

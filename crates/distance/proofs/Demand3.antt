@@ -22,7 +22,7 @@ use Rattle.operations.specs.Coordinates.{Coordinate}
 use Rattle.operations.specs.Refusals.{start_refusal}
 use Rattle.operations.proofs.Gates.{inside}
 use Rattle.engine.specs.declared.Drawing.{Drawing}
-use Rattle.engine.specs.declared.Moved.{Moved}
+use Rattle.engine.specs.Moved.{Moved}
 use Rattle.engine.specs.Drawing.{of, turned, moved, called}
 use Rattle.engine.specs.Start.{first_drawing, started}
 use Rattle.engine.specs.Choice.{chosen}

@@ -11,7 +11,10 @@ use lib.ListN.{length}
 use lib.Seq.{sets}
 use borrow.Author.Tests.{lt-leb, le-leb}
 use Rattle.numbers.proofs.Buffers.{sets_front}
+use Rattle.rules.specs.declared.refused.Refusal.{Refusal}
+use Rattle.rules.specs.Numbered.{number}
 use Rattle.rules.specs.Refusals.{unless, refusal_or, filled}
+use Rattle.rules.proofs.Numbered.{number_positive}
 use Rattle.rules.proofs.Refusals.{first_on, first_stop, answers, refuses}
 use Rattle.entries.specs.declared.Entry.{Entry}
 use Rattle.entries.specs.Entries.{entry_size, flat}
@@ -45,6 +48,10 @@ tally_answers p =
     λ i. record { refusal = 0; points = n i; length = (added_length (begun e) es ∙ zero-add (length_from e es)) i }
 
 -- ---- measuring
+
+pub measured_refused : (p : Path) (r : Refusal) → number r ≡ path_refusal p → refused_by (number r) ≡ measured p
+unfolding measured
+measured_refused p r e = refuses refused_by _ e (number_positive r)
 
 pub measured_tally : (p : Path) → path_refusal p ≡ 0
     → record { refusal = 0; points = (tally p).points; length = (tally p).length } ≡ measured p

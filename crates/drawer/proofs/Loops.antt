@@ -10,6 +10,7 @@ use lib.IntN.{ℤ}
 use lib.Pow.{pow_pos}
 use lib.Seq.{sets}
 use borrow.Author.Tests.{ltb-true, ltb-false}
+use Rattle.std.specs.Prelude.{Result, IsOk}
 use Rattle.numbers.proofs.Buffers.{stored_all}
 use Rattle.rules.specs.Refusals.{refusal_or}
 use Rattle.operations.specs.Coordinates.{in_x}
@@ -17,7 +18,8 @@ use Rattle.operations.specs.Position.{new_position}
 use Rattle.operations.specs.Refusals.{choice_refusal}
 use Rattle.operations.proofs.Gates.{choice_opens}
 use Rattle.engine.specs.declared.Drawing.{Drawing}
-use Rattle.engine.specs.declared.Moved.{Moved}
+use Rattle.engine.specs.declared.Refused.{Refused}
+use Rattle.engine.specs.Moved.{Moved, answered}
 use Rattle.coordinate.specs.Registers.{Operation, halve, double, step}
 use Rattle.engine.specs.Drawing.{turned, called}
 use Rattle.engine.specs.Choice.{chosen, Said, says, refused_by, choice, left}
@@ -36,6 +38,7 @@ use Rattle.path.proofs.Points.{position_most}
 use Rattle.path.proofs.Accepted.{accepted_lawful, point_inside, segment_accepted}
 use Rattle.path.proofs.Segments.{Of, Sound, fits, of_lies, of_next}
 use Rattle.path.proofs.Turns.{by_test, next_falls, turns_end, turns_more}
+use Rattle.drawer.proofs.Starts.{is_given}
 use Rattle.drawer.proofs.Due.{Due, due_here, due_then, due_by, due_shown, Few, few_small, few_most, few_more}
 
 -- ---- the start of each segment
@@ -99,10 +102,11 @@ module _ (p : Path) (k : ℕ) (sound : Sound p k) (op : Operation) (d : Drawing)
   before_end : d.q < 2 ^ F
   before_end = subst (λ (G : ℕ). d.q < 2 ^ G) kept.finest w.before_end
 
+  turn_accepted : m ≡ record { refusal = 0; drawing = next p.upper p.lower d }
+  turn_accepted = c ∙ ap (λ (o : Operation). called o d) (sym w.chosen) ∙ chosen_accepted F _ d kept p.upper p.lower (fits p k sound) before_end
+
   turn_next : m.drawing ≡ next p.upper p.lower d
-  turn_next =
-      ap (λ (r : Moved). r.drawing)
-      (c ∙ ap (λ (o : Operation). called o d) (sym w.chosen) ∙ chosen_accepted F _ d kept p.upper p.lower (fits p k sound) before_end)
+  turn_next = ap (λ (r : Moved). r.drawing) turn_accepted
 
   turn_turned : m.drawing ≡ turned op d
   turn_turned = turn_next ∙ ap (λ (o : Operation). turned o d) w.chosen
@@ -142,6 +146,9 @@ pub record Inner (p : Path) (k : ℕ) (after : List Entry) (l : List ℤ) (t : T
 
 module _ {p : Path} {k : ℕ} {after : List Entry} {l l₀ : List ℤ} {t t₀ : Tally} {d d₀ : Drawing}
     (i : Inner p k after l t d l₀ t₀ d₀) (sound : Sound p k) where
+  pub inner_given : (op : Operation) → Took p.upper p.lower op d → (r : Result Drawing Refused) → answered r ≡ called op d → IsOk r
+  inner_given op w r c = is_given r (ap (λ (m : Moved). m.refusal) (turn_accepted p k sound op d i.kept w _ c))
+
   pub inner_falls : (op : Operation) → Took p.upper p.lower op d → (m : Moved) → m ≡ called op d
       → left p.upper m.drawing < left p.upper d
   inner_falls op w m c = turn_falls p k sound op d i.kept w m c

@@ -5,17 +5,18 @@ mod segments;
 
 ghost use Rattle.std.specs.Prelude.{◌≡◌, ◌*◌, length};
 ghost use Rattle.std.proofs.lemmas.List.Edits.{sets};
+ghost use Rattle.rules.specs.Numbered.{refusal_of};
 ghost use Rattle.rules.specs.Rules.{standard_limits};
 ghost use Rattle.entries.specs.Entries.{entry_size, numbers, flat};
 ghost use Rattle.path.specs.Path.{path, path_refusal, first};
 ghost use Rattle.path.specs.Entries.{entry, entries};
-ghost use Rattle.path.specs.Answer.{refused_by, measured, drawn, written};
+ghost use Rattle.path.specs.Answer.{answered, measured, drawn, written};
 ghost use Rattle.drawer.specs.Tally.{Ready, Placed, begun, added, Small, tally};
 
-use engine::{Drawing, Next};
+use engine::{Drawing, Operation};
 use entries::{ENTRY_SIZE, Entry};
-use path::{Drawn, Shape};
-use rules::Limits;
+use path::{Shape, Totals};
+use rules::{Limits, Refusal};
 use segments::{entry_of, first_of};
 
 // What was drawn so far.
@@ -27,86 +28,71 @@ struct Tally {
 }
 
 // Draws a path into the front of `list`, four numbers a point. Refuses 14, 24, 1, 2, 3, 4, 9, with the list as it was.
-pub fn draw(points: &[i32], shape: Shape, limits: Limits, list: &mut [i32]) -> Drawn
-    ensures answer { result ≡ drawn (path points.now shape limits) (length list.old) }
+pub fn draw(
+    points: &[i32],
+    shape: Shape,
+    limits: Limits,
+    list: &mut [i32],
+) -> Result<Totals, Refusal>
+    ensures answer { answered result ≡ drawn (path points.now shape limits) (length list.old) }
     ensures list_after { list.new ≡ written (path points.now shape limits) list.old }
 {
-    let answer = measure(points, shape, limits);
-    if answer.refusal != 0 {
-        return answer;
-    }
-    if list.len() < ENTRY_SIZE * (answer.points as usize) {
-        return refuse(9);
+    let totals = measure(points, shape, limits)?;
+    if list.len() < ENTRY_SIZE * (totals.points as usize) {
+        return Err(Refusal::Room);
     }
     run(points, shape, limits, list);
-    answer
+    Ok(totals)
 }
 
 // The number of points and the length, without a list. Refuses 14, 24, 1, 2, 3, 4.
-pub fn measure(points: &[i32], shape: Shape, limits: Limits) -> Drawn
-    ensures { result ≡ measured (path points.now shape limits) }
+pub fn measure(points: &[i32], shape: Shape, limits: Limits) -> Result<Totals, Refusal>
+    ensures { answered result ≡ measured (path points.now shape limits) }
 {
-    let refusal = refusal_of(points, shape, limits);
-    if refusal != 0 {
-        return refuse(refusal);
-    }
-    let mut none = [0i32; 0];
-    let t = run(points, shape, limits, &mut none);
-    Drawn {
-        refusal: 0,
+    check(points, shape, limits)?;
+    let t = run(points, shape, limits, &mut []);
+    Ok(Totals {
         points: t.points,
         length: t.length,
-    }
+    })
 }
 
 // The same under the standard limits. Refuses 14, 24, 1, 2, 3, 9.
-pub fn draw_standard(points: &[i32], shape: Shape, list: &mut [i32]) -> Drawn
-    ensures answer { result ≡ drawn (path points.now shape standard_limits) (length list.old) }
+pub fn draw_standard(points: &[i32], shape: Shape, list: &mut [i32]) -> Result<Totals, Refusal>
+    ensures answer { answered result ≡ drawn (path points.now shape standard_limits) (length list.old) }
     ensures list_after { list.new ≡ written (path points.now shape standard_limits) list.old }
 {
     draw(points, shape, Limits::standard(), list)
 }
 
 // The same under the standard limits. Refuses 14, 24, 1, 2, 3.
-pub fn measure_standard(points: &[i32], shape: Shape) -> Drawn
-    ensures { result ≡ measured (path points.now shape standard_limits) }
+pub fn measure_standard(points: &[i32], shape: Shape) -> Result<Totals, Refusal>
+    ensures { answered result ≡ measured (path points.now shape standard_limits) }
 {
     measure(points, shape, Limits::standard())
 }
 
 // ---- refusals
 
-fn refusal_of(points: &[i32], shape: Shape, limits: Limits) -> u32
-    ensures { result ≡ path_refusal (path points.now shape limits) }
+#[tactic(auto, unfolding(path::specs::Path::path_refusal))]
+fn check(points: &[i32], shape: Shape, limits: Limits) -> Result<(), Refusal>
+    ensures { refusal_of result ≡ path_refusal (path points.now shape limits) }
 {
     let degree = shape.degree;
     if !rules::size(degree, shape.segments, points.len()) {
-        return 14;
+        return Err(Refusal::Segments);
     }
     if !rules::finest(shape.finest) {
-        return 24;
+        return Err(Refusal::FinestLevel);
     }
-    let refusal = rules::points_refusal(rules::reach(degree, shape.finest), points);
-    if refusal != 0 {
-        return refusal;
-    }
+    rules::check_points(rules::reach(degree, shape.finest), points)?;
     if !rules::level(shape.finest, shape.level) {
-        return 3;
+        return Err(Refusal::StartLevel);
     }
     if !limits.lawful() {
-        return 4;
+        return Err(Refusal::Limits);
     }
-    0
-}
-
-fn refuse(refusal: u32) -> Drawn
-    ensures { result ≡ refused_by refusal }
-{
-    Drawn {
-        refusal: refusal,
-        points: 0,
-        length: 0,
-    }
+    Ok(())
 }
 
 // ---- the drawer
@@ -117,26 +103,22 @@ fn run(points: &[i32], shape: Shape, limits: Limits, list: &mut [i32]) -> Tally
     ensures value { result ≡ tally (path points.now shape limits) }
     ensures list_after { list.new ≡ sets list.old 0 (flat (entries (path points.now shape limits))) }
 {
-    let segments = shape.segments;
     let mut t = begin(points, shape, list);
-    let mut k: u32 = 0;
-    'segments: while k < segments {
+    'segments: for k in 0..shape.segments {
         // A copy, which the operations can change in registers: what a call hands over stays in memory.
         let first = first_of(points, shape, k);
         let mut d = first;
         'operations: loop {
-            let next = d.next(limits);
-            match next {
-                Next::Halve => d = d.halve().drawing,
-                Next::Double => d = d.double().drawing,
-                Next::Step => {
-                    d = d.step().drawing;
+            match d.next(limits) {
+                Ok(Operation::Halve) => d = d.halve().unwrap(),
+                Ok(Operation::Double) => d = d.double().unwrap(),
+                Ok(Operation::Step) => {
+                    d = d.step().unwrap();
                     t = show(t, d, k, list);
                 }
-                Next::Refused(_) => break 'operations,
+                Err(_) => break 'operations,
             }
         }
-        k += 1;
     }
     t
 }

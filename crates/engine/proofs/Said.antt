@@ -6,6 +6,7 @@ use Prim.Native.Nat.{ℕ, zero, suc}
 use Rattle.std.specs.Prelude.{Result, Ok, Err}
 use Rattle.rules.specs.declared.refused.Refusal.{Refusal}
 use Rattle.rules.proofs.Refusals.{answers}
+use Rattle.rules.proofs.Numbered.{number_positive, number_determines}
 use Rattle.coordinate.specs.Registers.{Operation, halve, double, step}
 use Rattle.operations.specs.Refusals.{choice_refusal}
 use Rattle.operations.specs.ThreeRules.{Ruled}
@@ -33,14 +34,27 @@ unfolding choice
 choice_is_ruled upper lower d op e w =
     answers refused_by (says (chosen upper lower d)) e ∙ ap says (rules_choose d.finest upper lower d.level d.q (λ c. of c d) op w)
 
-abbrev meant : ℕ → Option ℕ → Option Answer
-meant k none = none
-meant k (some zero) = some Halve
-meant k (some (suc zero)) = some Double
-meant k (some (suc (suc m))) = some Step
+-- ---- the answer is determined
+
+operation_said : Option ℕ → Answer
+operation_said none = Step
+operation_said (some zero) = Halve
+operation_said (some (suc zero)) = Double
+operation_said (some (suc (suc m))) = Step
+
+said_back : (a : Answer) → operation_said (said (Ok a)).operation ≡ a
+unfolding operation_said
+said_back Halve = refl
+said_back Double = refl
+said_back Step = refl
+
+never_refused : (a : Answer) → (said (Ok a)).refusal ≡ 0
+never_refused Halve = refl
+never_refused Double = refl
+never_refused Step = refl
 
 pub said_determines : (r r' : Result Answer Refusal) → said r ≡ said r' → r ≡ r'
-said_determines (Ok a) (Ok b) e = ?
-said_determines (Ok a) (Err s) e = ?
-said_determines (Err r) (Ok b) e = ?
-said_determines (Err r) (Err s) e = ?
+said_determines (Ok a) (Ok b) e = ap Ok (sym (said_back a) ∙ ap (λ (s : Said). operation_said s.operation) e ∙ said_back b)
+said_determines (Ok a) (Err s) e = absurd (number_positive s (sym (ap (λ (s : Said). s.refusal) e) ∙ never_refused a))
+said_determines (Err r) (Ok b) e = absurd (number_positive r (ap (λ (s : Said). s.refusal) e ∙ never_refused b))
+said_determines (Err r) (Err s) e = ap Err (number_determines r s (ap (λ (s : Said). s.refusal) e))

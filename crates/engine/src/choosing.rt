@@ -5,11 +5,11 @@ ghost use Rattle.coordinate.specs.declared.Registers.{Registers};
 ghost use Rattle.coordinate.specs.Increment.{increment, doubled_increment};
 
 // By c, whatever the other registers are.
-pub(crate) fn increment_of(c: i32, n: u32) -> u64
+pub(crate) fn increment_of(c: i32, n: u32) -> u32
     requires { n ≤ most_finest }
     ensures { (r : Registers) → r.c ≡ c → result ≡ increment n r }
 {
-    i64::from(c >> n).unsigned_abs()
+    (c >> n).unsigned_abs()
 }
 
 // After doubling: by b and c, whatever the others are. In 64 bits, since of registers that a caller made up the doubled c may leave 32.

@@ -19,12 +19,11 @@ ghost use Rattle.engine.specs.Shown.{point};
 
 use choosing::{doubled_increment_of, increment_of};
 use coordinate::Registers;
+pub use curve::{Coefficients, Curve};
 use refusals::{check_choice, check_double, check_gate, check_halve, is_aligned, stride};
 use rules::{Limits, Refusal};
 use starting::{begin, check};
 use turning::{double_one, halve_one, land, pixel_of, refuse, step_one};
-
-pub use curve::{Coefficients, Curve};
 
 // A drawing at level `level` and position `q`, which counts 2^finest-ths of the parameter.
 #[derive(Clone, Copy)]
@@ -126,8 +125,8 @@ impl Drawing {
         let level = self.level;
         let q = self.q;
         check_choice(limits, finest, level, q)?;
-        let upper = u64::from(limits.upper);
-        let lower = u64::from(limits.lower);
+        let upper = limits.upper;
+        let lower = limits.lower;
         let x = increment_of(self.x.c, level);
         let y = increment_of(self.y.c, level);
         if ((upper < x) | (upper < y)) & (level < finest) {
@@ -140,7 +139,8 @@ impl Drawing {
         }
         let doubled_x = doubled_increment_of(self.x.b, self.x.c, level);
         let doubled_y = doubled_increment_of(self.y.b, self.y.c, level);
-        if (doubled_x <= upper) & (doubled_y <= upper) {
+        let most = u64::from(upper);
+        if (doubled_x <= most) & (doubled_y <= most) {
             return Ok(Operation::Double);
         }
         Ok(Operation::Step)

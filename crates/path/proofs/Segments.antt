@@ -11,7 +11,7 @@ use Rattle.coordinate.proofs.Stands.{Bounded, bounded}
 use Rattle.operations.specs.Coordinates.{Coordinate}
 use Rattle.operations.specs.Position.{is_drawing}
 use Rattle.engine.specs.declared.Drawing.{Drawing}
-use Rattle.engine.specs.declared.Moved.{Moved}
+use Rattle.engine.specs.Moved.{Moved}
 use Rattle.engine.specs.Drawing.{called}
 use Rattle.engine.specs.Start.{started}
 use Rattle.engine.specs.Choice.{chosen}

@@ -17,7 +17,7 @@ use Rattle.coordinate.proofs.Stands.{stands}
 use Rattle.operations.specs.Coordinates.{Coordinate, in_x, in_y, in_width}
 use Rattle.operations.specs.ThreeRules.{Rule1}
 use Rattle.engine.specs.declared.Drawing.{Drawing}
-use Rattle.engine.specs.declared.Moved.{Moved}
+use Rattle.engine.specs.Moved.{Moved}
 use Rattle.engine.specs.Drawing.{of, turned}
 use Rattle.distance.specs.Calls.{after, travelled}
 use Rattle.distance.specs.Demand3.{Demand3}

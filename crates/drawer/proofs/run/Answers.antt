@@ -1,16 +1,20 @@
 -- Both loops keep what is still due (proofs/Loops). The drawing stays one of its segment, so that each chosen operation is accepted and
 -- brings the end nearer, and choosing refuses at the end alone.
-use mathlib.Core.Path.{refl, sym}
+use mathlib.Core.Path.{◌≡◌, refl, sym, ap, ◌∙◌}
 use Prim.Native.Nat.{◌<◌}
 use native.Mathlib.Omega.{arith}
+use Rattle.std.specs.Prelude.{Ok}
 use Rattle.rules.specs.Rules.{most_segments}
 use Rattle.coordinate.specs.Registers.{halve, double, step}
+use Rattle.engine.specs.declared.Operation.{Operation}
+use Rattle.engine.specs.Choice.{said}
 use Rattle.path.specs.Path.{path}
 use Rattle.path.proofs.Accepted.{accepted_lawful}
 use Rattle.path.proofs.Segments.{Sound, sound}
-use Rattle.drawer.proofs.Loops.{segment_ready, Took, took, refused_ends, turn_kept, inner_falls, inner_quiet, inner_step, placed, room_left, outer_starts, inner_starts, outer_goes, all_shown}
+use Rattle.drawer.proofs.Starts.{given}
+use Rattle.drawer.proofs.Loops.{segment_ready, Took, took, refused_ends, turn_kept, inner_given, inner_falls, inner_quiet, inner_step, placed, room_left, outer_starts, inner_starts, outer_goes, all_shown}
 use Rattle.drawer.proofs.run.Goals as goal
-use Rattle.drawer.proofs.run.Goals.{In-Double, In-Halve, In-Step, In-segments}
+use Rattle.drawer.proofs.run.Goals.{In-Ok-Double, In-Ok-Halve, In-Ok-Step, In-segments}
 
 -- ---- the path and its segment, at the head of each loop
 
@@ -33,61 +37,79 @@ operations-init c = inner_starts c.segments.invariant (sound_at (goal.at.operati
 
 -- ---- what an arm took: c stands in that arm
 
-halved : (c : In-Halve) → Took c.args.limits.upper c.args.limits.lower halve c.operations.d
-halved c = took _ _ halve _ (sym c.in-Halve.ensures)
+named : {o p : Operation} → o ≡ p → said (Ok o) ≡ said (Ok p)
+named = ap (λ o. said (Ok o))
 
-pub operations-smaller-in-Halve : goal.operations-smaller-in-Halve
-operations-smaller-in-Halve c =
-    let s = goal.at.operations-smaller-in-Halve c in
-    inner_falls c.operations.invariant (sound_at s.In-segments) halve (halved s.In-Halve) _ c.halve.ensures
+halved : (c : In-Ok-Halve) → Took c.args.limits.upper c.args.limits.lower halve c.operations.d
+halved c = took _ _ halve _ (sym c.in-Ok-Halve.ensures ∙ named c.in-Ok-Halve.field-0-is)
 
-pub operations-preserved-in-Halve : goal.operations-preserved-in-Halve
-operations-preserved-in-Halve c =
-    let s = goal.at.operations-preserved-in-Halve c in
-    inner_quiet c.operations.invariant (sound_at s.In-segments) halve refl (halved s.In-Halve) _ c.halve.ensures
+pub unwrap-d-requires : goal.unwrap-d-requires
+unwrap-d-requires c =
+    let s = goal.at.unwrap-d-requires c in
+    inner_given c.operations.invariant (sound_at s.In-segments) halve (halved s.In-Ok-Halve) _ c.halve.ensures
 
-doubled : (c : In-Double) → Took c.args.limits.upper c.args.limits.lower double c.operations.d
-doubled c = took _ _ double _ (sym c.in-Double.ensures)
+pub operations-smaller-in-Ok-Halve : goal.operations-smaller-in-Ok-Halve
+operations-smaller-in-Ok-Halve c =
+    let s = goal.at.operations-smaller-in-Ok-Halve c in
+    inner_falls c.operations.invariant (sound_at s.In-segments) halve (halved s.In-Ok-Halve) _ (given c.unwrap-d.ensures c.halve.ensures)
 
-pub operations-smaller-in-Double : goal.operations-smaller-in-Double
-operations-smaller-in-Double c =
-    let s = goal.at.operations-smaller-in-Double c in
-    inner_falls c.operations.invariant (sound_at s.In-segments) double (doubled s.In-Double) _ c.double.ensures
+pub operations-preserved-in-Ok-Halve : goal.operations-preserved-in-Ok-Halve
+operations-preserved-in-Ok-Halve c =
+    let s = goal.at.operations-preserved-in-Ok-Halve c in
+    inner_quiet c.operations.invariant (sound_at s.In-segments) halve refl (halved s.In-Ok-Halve) _ (given c.unwrap-d.ensures c.halve.ensures)
 
-pub operations-preserved-in-Double : goal.operations-preserved-in-Double
-operations-preserved-in-Double c =
-    let s = goal.at.operations-preserved-in-Double c in
-    inner_quiet c.operations.invariant (sound_at s.In-segments) double refl (doubled s.In-Double) _ c.double.ensures
+doubled : (c : In-Ok-Double) → Took c.args.limits.upper c.args.limits.lower double c.operations.d
+doubled c = took _ _ double _ (sym c.in-Ok-Double.ensures ∙ named c.in-Ok-Double.field-0-is)
 
-stepped : (c : In-Step) → Took c.args.limits.upper c.args.limits.lower step c.operations.d
-stepped c = took _ _ step _ (sym c.in-Step.ensures)
+pub unwrap-d-requires-in-Ok-Double : goal.unwrap-d-requires-in-Ok-Double
+unwrap-d-requires-in-Ok-Double c =
+    let s = goal.at.unwrap-d-requires-in-Ok-Double c in
+    inner_given c.operations.invariant (sound_at s.In-segments) double (doubled s.In-Ok-Double) _ c.double.ensures
+
+pub operations-smaller-in-Ok-Double : goal.operations-smaller-in-Ok-Double
+operations-smaller-in-Ok-Double c =
+    let s = goal.at.operations-smaller-in-Ok-Double c in
+    inner_falls c.operations.invariant (sound_at s.In-segments) double (doubled s.In-Ok-Double) _ (given c.unwrap-d-in-Ok-Double.ensures c.double.ensures)
+
+pub operations-preserved-in-Ok-Double : goal.operations-preserved-in-Ok-Double
+operations-preserved-in-Ok-Double c =
+    let s = goal.at.operations-preserved-in-Ok-Double c in
+    inner_quiet c.operations.invariant (sound_at s.In-segments) double refl (doubled s.In-Ok-Double) _ (given c.unwrap-d-in-Ok-Double.ensures c.double.ensures)
+
+stepped : (c : In-Ok-Step) → Took c.args.limits.upper c.args.limits.lower step c.operations.d
+stepped c = took _ _ step _ (sym c.in-Ok-Step.ensures ∙ named c.in-Ok-Step.field-0-is)
+
+pub unwrap-d-requires-in-Ok-Step : goal.unwrap-d-requires-in-Ok-Step
+unwrap-d-requires-in-Ok-Step c =
+    let s = goal.at.unwrap-d-requires-in-Ok-Step c in
+    inner_given c.operations.invariant (sound_at s.In-segments) step (stepped s.In-Ok-Step) _ c.step.ensures
 
 pub show-t-requires : goal.show-t-requires
 show-t-requires c =
     let s = goal.at.show-t-requires c in
     let p = path c.args.points.now c.args.shape c.args.limits in
     let i = c.operations.invariant in
-    let on = turn_kept p _ (sound_at s.In-segments) step _ i.kept (stepped s.In-Step) _ c.step.ensures in
+    let on = turn_kept p _ (sound_at s.In-segments) step _ i.kept (stepped s.In-Ok-Step) _ (given c.unwrap-d-in-Ok-Step.ensures c.step.ensures) in
     let k : c.segments.k < most_segments = omega (arith, c.segments-test.true, (accepted_lawful p c.requires).most) in
     (room_left p _ _ i.kept k i.few, placed p _ _ on k)
 
 pub operations-smaller : goal.operations-smaller
 operations-smaller c =
     let s = goal.at.operations-smaller c in
-    inner_falls c.operations.invariant (sound_at s.In-segments) step (stepped s.In-Step) _ c.step.ensures
+    inner_falls c.operations.invariant (sound_at s.In-segments) step (stepped s.In-Ok-Step) _ (given c.unwrap-d-in-Ok-Step.ensures c.step.ensures)
 
 pub operations-preserved : goal.operations-preserved
 operations-preserved c =
     let s = goal.at.operations-preserved c in
     let e = c.show-t.ensures in
-    rw (e.value, e.list_after) (inner_step c.operations.invariant (sound_at s.In-segments) (stepped s.In-Step) _ c.step.ensures)
+    rw (e.value, e.list_after) (inner_step c.operations.invariant (sound_at s.In-segments) (stepped s.In-Ok-Step) _ (given c.unwrap-d-in-Ok-Step.ensures c.step.ensures))
 
 pub segments-preserved : goal.segments-preserved
 segments-preserved c =
     let s = goal.at.segments-preserved c in
     let p = path c.args.points.now c.args.shape c.args.limits in
     let i = c.operations.invariant in
-    let end = refused_ends p _ (sound_at s.In-segments) _ i.kept _ (sym c.in-Refused.ensures) in
+    let end = refused_ends p _ (sound_at s.In-segments) _ i.kept _ (sym c.in-Err.ensures) in
     outer_goes c.segments.invariant c.segments-test.true c.first_of-first.ensures i end
 
 -- ---- after the last segment

@@ -1,5 +1,5 @@
--- What both loops keep is in proofs/Loops; the measures are what is left of a segment, and the segments that are left.
-use Prim.Native.Nat.{◌+◌, ◌-◌}
+-- What both loops keep is in proofs/Loops; the measure is what is left of a segment.
+use Prim.Native.Nat.{◌+◌}
 use Rattle.engine.specs.Choice.{left}
 use Rattle.path.specs.Path.{path}
 use Rattle.drawer.proofs.Loops.{Inner, Outer, onward}
@@ -14,6 +14,3 @@ decreases-operations l = left l.limits.upper l.d
 
 abbrev pub invariant-segments : goal.invariant-segments
 invariant-segments l = Outer (path l.points l.shape l.limits) l.list l.t l.k l.initial.list l.initial.t l.initial.k
-
-abbrev pub decreases-segments : goal.decreases-segments
-decreases-segments l = l.segments - l.k

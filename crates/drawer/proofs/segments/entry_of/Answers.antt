@@ -16,12 +16,6 @@ use Rattle.drawer.proofs.segments.entry_of.Goals as goal
 start : (F k : ℕ) → F ≤ 12 → k < 64 → k * 2 ^ F % 4294967296 ≡ 2 ^ F * k
 start F k f h = mod-eq_of_lt (omega (arith, position_most F k 0 f h zero-le, mul_comm k (2 ^ F))) ∙ mul_comm k (2 ^ F)
 
-pub overflow_cast-result : goal.overflow_cast-result
-overflow_cast-result c =
-    let F = c.args.d.finest in
-    let h = c.requires in
-    rw (start F c.args.k h.finest h.few) (record { sfits = omega (arith, position_most F _ _ h.finest h.few h.within) })
-
 pub returns : goal.returns
 unfolding entry point
 returns c =
@@ -30,7 +24,10 @@ returns c =
     let k = c.args.k in
     let h = c.requires in
     let most = position_most F k q h.finest h.few h.within in
-    let position = ap (λ (n : ℕ). to_z w32 (n + q)) (start F k h.finest h.few) ∙ to_z_pos w32 {n = 2 ^ F * k + q} (omega arith) in
+    let position = to_z-of_z {w = w32} {z = c.cast_signed.result} (record { sfits = omega arith })
+    ∙ c.cast_signed.ensures
+    ∙ ap (λ (n : ℕ). to_z w32 (n + q)) (start F k h.finest h.few)
+    ∙ to_z_pos w32 {n = 2 ^ F * k + q} (omega arith) in
     let at = c.shown-shown.result in
     let shown = c.shown-shown.ensures in
     let x = to_z-of_z {w = w32} {z = at.x} (record { sfits = omega arith }) ∙ ap (λ (p : Shown). p.x) shown in

@@ -5,15 +5,12 @@ use mir.Syntax.{w32}
 use Rattle.numbers.proofs.Machine.{Num, field, kept, shift, shift_fits}
 use Rattle.coordinate.specs.Registers.{◌>>◌}
 use Rattle.coordinate.specs.Increment.{increment}
-use Rattle.engine.proofs.Fitting.{held}
 use Rattle.engine.proofs.choosing.increment_of.Goals as goal
-use Rattle.engine.proofs.choosing.increment_of.Goals.{After-from}
+use Rattle.engine.proofs.choosing.increment_of.Goals.{Start}
 
-abbrev shifted : (c : After-from) → Num 2147483648 (c.args.c >> c.args.n)
-shifted c =
-    let small = shift_fits c.args.n c.ranges.c in
-    held c.from.result small (c.from.ensures ∙ (kept w32 small (shift c.args.n (field c.ranges.c))).is)
+abbrev shifted : (c : Start) → Num 2147483648 (c.args.c >> c.args.n)
+shifted c = kept w32 (shift_fits c.args.n c.ranges.c) (shift c.args.n (field c.ranges.c))
 
 pub returns : goal.returns
 unfolding increment
-returns c r is = c.unsigned_abs.ensures.value ∙ ap nat_abs ((shifted (goal.at.returns c).After-from).is ∙ ap (λ (z : ℤ). z >> c.args.n) (sym is))
+returns c r is = c.unsigned_abs.ensures.value ∙ ap nat_abs ((shifted (goal.at.returns c).Start).is ∙ ap (λ (z : ℤ). z >> c.args.n) (sym is))

@@ -20,9 +20,9 @@ unfolding landed registers_refusal every
 returns-in_default c = elim c.in_default.branch [
   | in_default-via-in-Ok+in-Ok+in_default w ↦ simp (c.refuse.ensures, w.in_default.ensures.0, w.in_default.ensures'.0, w.in_default.ensures'')
   | in_default-via-in-Ok+in_default w ↦
-    let y : Narrows c.args.y (Err w.in_default.field-0-1) = rw w.in_default.is-1 at c.try_from-2.ensures in
-    simp (c.refuse.ensures, w.in_default.ensures.0, y)
+      let y : Narrows c.args.y (Err w.in_default.field-0-1) = rw w.in_default.is-1 at c.try_from-2.ensures in
+      simp (c.refuse.ensures, w.in_default.ensures.0, y)
   | in_default-via-in_default w ↦
-    let x : Narrows c.args.x (Err w.in_default.field-0-0) = rw w.in_default.is-0 at c.try_from.ensures in
-    simp (c.refuse.ensures, x)
+      let x : Narrows c.args.x (Err w.in_default.field-0-0) = rw w.in_default.is-0 at c.try_from.ensures in
+      simp (c.refuse.ensures, x)
 ]

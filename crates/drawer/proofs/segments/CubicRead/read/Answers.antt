@@ -5,7 +5,7 @@ use native.Mathlib.Omega.{arith}
 use Rattle.numbers.proofs.Machine.{number_read}
 use Rattle.rules.specs.Rules.{coordinates}
 use Rattle.path.specs.Path.{point_at, control}
-use Rattle.drawer.proofs.segments.cubic_of.Goals as goal
+use Rattle.drawer.proofs.segments.CubicRead.read.Goals as goal
 
 pub returns : goal.returns
 unfolding control point_at
