@@ -5,15 +5,12 @@ use Prim.Native.Nat.{ℕ, ◌≤◌, ◌<◌}
 use borrow.Author.Tests.{leb-true, le-leb, lt-leb}
 use lib.Dec.{leb}
 use lib.ListN.{length, take, drop}
-use lib.Seq.{sets, take-append_seam}
-use Rattle.std.specs.Prelude.{Result, Ok, Err, IsErrAnd}
-use Rattle.std.proofs.lemmas.Result.{err_from_is_err_and}
-use Rattle.numbers.proofs.Buffers.{sets_front}
+use lib.Seq.{take-append_seam}
+use Rattle.std.specs.Prelude.{Result, Ok, Err}
 use Rattle.rules.specs.declared.refused.Refusal.{Refusal}
-use Rattle.rules.specs.Numbered.{number}
 use Rattle.rules.specs.Refusals.{unless, first_of, refusal_or, filled}
 use Rattle.rules.proofs.Numbered.{number_positive, number_determines}
-use Rattle.rules.proofs.Refusals.{rule_kept, first_kept, first_stop, refuses, number_answered, filled_refused}
+use Rattle.rules.proofs.Refusals.{rule_kept, first_kept, first_stop, refuses, number_answered}
 use Rattle.sheet.specs.Answer.{Written, refused_by, wrote, answered}
 
 -- ---- what is returned
@@ -67,29 +64,3 @@ module _ {A : Type 0} where
       → (answer ≡ wrote (length values)) × (list ≡ values ++ drop (length values) buffer)
       → take answer.count list ≡ values
   front_answered values buffer e = rw (e.0, e.1) (take-append_seam values (drop (length values) buffer))
-
--- ---- what a call returns and leaves in the buffer
-
--- the answer, and the buffer afterwards, where all tests but 9 give the number k
-abbrev pub Outcome : {A : Type 0} → ℕ → List A → List A → Written → List A → Type 0
-Outcome k values buffer answer after =
-    let refusal = room_refusal k (length values) (length buffer) in
-    (answer ≡ refused_or_wrote refusal (length values)) × (after ≡ filled refusal values buffer)
-
-module _ {A : Type 0} {k : ℕ} (values buffer : List A) where
-  -- a refusal that `?` passes up
-  pub refused : (a : Result ℕ Refusal) (r : Refusal) → IsErrAnd a (λ e. e ≡ r) → number r ≡ k → Outcome k values buffer (answered a) buffer
-  refused a r e says =
-      let p = err_from_is_err_and a e in
-      let h : k ≡ 0 → ⊥ = λ z. number_positive r (says ∙ z) in
-      rw (p.1, p.2, says, first_stop k _ h) (sym (refused_answer k (length values) h), sym (filled_refused values buffer k h))
-
-  module _ {n : ℕ} (z : k ≡ 0) (counted : n ≡ length values) where
-    pub without_room : length buffer < n → Outcome k values buffer (refused_by 9) buffer
-    without_room h = let less = rw counted at h in rw (z, lt-leb _ _ less) (refl, refl)
-
-    pub with_room : {after : List A} → n ≤ length buffer → after ≡ sets buffer 0 values → Outcome k values buffer (wrote n) after
-    with_room h stored =
-        let fits = rw counted at h in
-        let enough = room_enough {found = values} buffer z refl fits in
-        (rw counted (sym enough.0), stored ∙ sets_front buffer values fits ∙ sym enough.1)

@@ -22,7 +22,7 @@ use Rattle.sheet.proofs.Bytes.{length_values}
 
 -- ---- the records
 
-values_append : (xs ys : List ℤ) → value_bytes (xs ++ ys) ≡ value_bytes xs ++ value_bytes ys
+pub values_append : (xs ys : List ℤ) → value_bytes (xs ++ ys) ≡ value_bytes xs ++ value_bytes ys
 unfolding value_bytes
 values_append [] ys = refl
 values_append (x ∷ xs) ys = ap (λ (b : List ℕ). le16 (bits16 x) ++ b) (values_append xs ys)

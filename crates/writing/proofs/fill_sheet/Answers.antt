@@ -1,20 +1,21 @@
 -- Five runs of stores, each where the one before ends: the parts of the sheet's bytes.
 use mathlib.Core.Path.{◌≡◌}
 use mathlib.Core.List.{List}
-use Prim.Native.Nat.{ℕ, ◌+◌, ◌-◌, ◌*◌, ◌≤◌}
+use Prim.Native.Nat.{ℕ, ◌+◌, ◌-◌}
 use native.Mathlib.Omega.{arith}
 use lib.IntN.{ℤ}
-use lib.ListN.{length, drop}
+use lib.ListN.{length, take, drop}
 use lib.Seq.{sets}
+use Rattle.std.proofs.lemmas.Slice.{between_to_end}
 use Rattle.numbers.proofs.Buffers.{sets_append}
-use Rattle.sheet.specs.Bytes.{value_size, le32, value_bytes}
-use Rattle.sheet.specs.Sheet.{least_bytes, most_bytes, list_head, head_size, offsets, sheet_bytes}
+use Rattle.sheet.specs.Bytes.{le32, value_bytes}
+use Rattle.sheet.specs.Sheet.{least_bytes, list_head, head_size, offsets, sheet_bytes}
 use Rattle.sheet.specs.NumberList.{number_at, paths_at, sheet_of}
-use Rattle.sheet.specs.Writing.{Parted, list_refusal}
+use Rattle.sheet.specs.Writing.{Parted}
 use Rattle.sheet.proofs.Sheets.{length_offsets}
 use Rattle.sheet.proofs.NumberList.{count_paths}
 use Rattle.sheet.proofs.Writing.{listed, paths_short}
-use Rattle.writing.proofs.Flat.{bytes_flat, bytes_count}
+use Rattle.writing.proofs.Flat.{bytes_flat}
 use Rattle.writing.proofs.fill_sheet.Goals as goal
 
 -- ---- the five runs
@@ -38,51 +39,23 @@ filled : (l : List ℤ) (sheet : List ℕ) → Parted l → {n upper lower p : �
     → s₅ ≡ sets sheet 0 (sheet_bytes (sheet_of l))
 filled l sheet parted n upper lower p e₁ e₂ e₃ e₄ e₅ = rw (e₅, e₄, e₃, e₂, e₁, p, n, upper, lower) (runs l sheet parted)
 
--- ---- an accepted list, and a sheet that has room for it
+-- the numbers after the first three
+after_head : (l : List ℤ) → take (length l - list_head) (drop list_head l) ≡ drop list_head l
+after_head l = between_to_end l list_head (length l) (omega arith)
 
-room : (l : List ℤ) (sheet : List ℕ) → list_refusal l ≡ 0 → length (sheet_bytes (sheet_of l)) ≤ length sheet
-    → let size = head_size (number_at l 0) + value_size * (length l - list_head) in
-    (list_head ≤ length l) × (size ≤ length sheet) × (size ≤ most_bytes)
-room l sheet e h =
-    let a = listed l e in
-    let count = bytes_count l a.parted in
-    (a.parted.0, omega (arith, h, count), omega (arith, a.fits, count))
+-- ---- an accepted list
 
-pub number_at-paths-requires : goal.number_at-paths-requires
-number_at-paths-requires c = omega (arith, room _ _ c.requires.accepted c.requires.room)
+pub put_offsets-requires-clause-accepted : goal.put_offsets-requires-clause-accepted
+put_offsets-requires-clause-accepted c = rw c.number_at-paths.ensures (listed _ c.requires.accepted).parted.2
 
-pub put_u32-requires : goal.put_u32-requires
-put_u32-requires c = omega (arith, room _ _ c.requires.accepted c.requires.room)
-
-pub number_at-requires : goal.number_at-requires
-number_at-requires c = omega (arith, room _ _ c.requires.accepted c.requires.room)
-
-pub put_u32-requires-2 : goal.put_u32-requires-2
-put_u32-requires-2 c = omega (arith, room _ _ c.requires.accepted c.requires.room)
-
-pub number_at-requires-2 : goal.number_at-requires-2
-number_at-requires-2 c = omega (arith, room _ _ c.requires.accepted c.requires.room)
-
-pub put_u32-requires-3 : goal.put_u32-requires-3
-put_u32-requires-3 c = omega (arith, room _ _ c.requires.accepted c.requires.room)
-
-pub put_offsets-requires : goal.put_offsets-requires
-put_offsets-requires c =
-    record {
-      accepted = rw c.number_at-paths.ensures (listed _ c.requires.accepted).parted.2;
-      room = omega (arith, room _ _ c.requires.accepted c.requires.room, c.number_at-paths.ensures);
-    }
-
-pub put_values-requires : goal.put_values-requires
-put_values-requires c =
+pub put_values-requires-clause-short : goal.put_values-requires-clause-short
+put_values-requires-clause-short c =
+    let l = c.args.numbers.now in
     let parted = (listed _ c.requires.accepted).parted in
-    record {
-      short = paths_short c.args.numbers.now _ list_head parted.0 parted.2;
-      room = omega (arith, room _ _ c.requires.accepted c.requires.room, c.number_at-paths.ensures);
-    }
+    rw (after_head l) (paths_short l _ list_head parted.0 parted.2)
 
 pub returns : goal.returns
 returns c =
     filled c.args.numbers.now _ (listed _ c.requires.accepted).parted
     c.number_at-paths.ensures c.number_at.ensures c.number_at-2.ensures c.head_size.ensures
-    c.put_u32.ensures c.put_u32-2.ensures c.put_u32-3.ensures c.put_offsets.ensures c.put_values.ensures
+    c.put_u32.ensures c.put_u32-2.ensures c.put_u32-3.ensures c.put_offsets.ensures (rw (after_head c.args.numbers.now) at c.put_values.ensures)

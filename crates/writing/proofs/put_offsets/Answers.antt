@@ -1,67 +1,33 @@
 -- Each turn stores the place of one path's record: the sheet with all that is to come is that of the loop's start.
-use mathlib.Core.Path.{◌≡◌}
+use mathlib.Core.Path.{◌≡◌, ap, ◌∙◌}
 use mathlib.Core.List.{List, [], ◌++◌}
-use Prim.Native.Nat.{ℕ, zero, suc, ◌+◌, ◌-◌, ◌*◌, ◌≤◌, ◌<◌}
+use Prim.Native.Nat.{ℕ, zero, suc, ◌+◌, ◌-◌, ◌*◌, ◌<◌}
 use native.Mathlib.Omega.{arith}
 use lib.IntN.{ℤ}
-use lib.ListN.{length}
 use lib.Seq.{sets}
 use Rattle.numbers.proofs.Buffers.{Ahead, then, stored, stored_all}
 use Rattle.sheet.specs.Bytes.{value_size, le32}
-use Rattle.sheet.specs.Sheet.{offset_size, path_head, record_head, offsets}
+use Rattle.sheet.specs.Sheet.{offset_size, head_size, path_head, record_head, offsets}
 use Rattle.sheet.specs.NumberList.{path_point_numbers, path_at, path_end, paths_at}
 use Rattle.sheet.specs.Writing.{path_refusal, paths_refusal}
 use Rattle.sheet.proofs.Sheets.{length_record}
 use Rattle.sheet.proofs.Writing.{paths_kept, path_fits, path-points}
 use Rattle.writing.proofs.put_offsets.Goals as goal
-use Rattle.writing.proofs.put_offsets.Goals.{After-path_point_numbers-n, In-loop-left}
+use Rattle.writing.proofs.put_offsets.Goals.{In-loop-k}
 
--- ---- in a turn the path at `at` has no refusal, so that all its numbers are there
+-- in a turn the path at `at` has no refusal, so that all its numbers are there
 
-kept : (c : In-loop-left)
+kept : (c : In-loop-k)
     → let l = c.args.numbers.now in
-    (path_refusal l c.loop-left.at ≡ 0) × (paths_refusal l (c.loop-left.left - 1) (path_end l c.loop-left.at) ≡ 0)
-kept c = paths_kept c.args.numbers.now c.loop-left.left c.loop-left.at c.loop-left-test.true c.loop-left.invariant.3
-
-inside : (c : In-loop-left) → path_end c.args.numbers.now c.loop-left.at ≤ length c.args.numbers.now
-inside c = path_fits c.args.numbers.now c.loop-left.at (kept c).0
+    (path_refusal l c.loop-k.at ≡ 0) × (paths_refusal l (c.args.paths - c.loop-k.k - 1) (path_end l c.loop-k.at) ≡ 0)
+kept c = paths_kept c.args.numbers.now (c.args.paths - c.loop-k.k) c.loop-k.at (omega arith) c.loop-k.invariant.1
 
 pub overflow_cast-place : goal.overflow_cast-place
-overflow_cast-place c = omega (arith, inside (goal.at.overflow_cast-place c).In-loop-left)
+overflow_cast-place c = omega (arith, path_fits c.args.numbers.now _ (kept (goal.at.overflow_cast-place c).In-loop-k).0)
 
 pub path_point_numbers-n-requires : goal.path_point_numbers-n-requires
-path_point_numbers-n-requires c = omega (arith, inside (goal.at.path_point_numbers-n-requires c).In-loop-left)
-
--- ---- its end
-
-end : (c : After-path_point_numbers-n)
-    → c.loop-left.at + (path_head + c.path_point_numbers-n.result) ≡ path_end c.args.numbers.now c.loop-left.at
-end c = omega (arith, c.path_point_numbers-n.ensures)
-
-pub overflow_mul-place : goal.overflow_mul-place
-overflow_mul-place c =
-    let at = goal.at.overflow_mul-place c in
-    omega (arith, end at.After-path_point_numbers-n, inside at.In-loop-left)
-
-pub overflow_add-place : goal.overflow_add-place
-overflow_add-place c =
-    let at = goal.at.overflow_add-place c in
-    omega (arith, end at.After-path_point_numbers-n, inside at.In-loop-left)
-
-pub overflow_add-place-in-loop-left : goal.overflow_add-place-in-loop-left
-overflow_add-place-in-loop-left c =
-    let at = goal.at.overflow_add-place-in-loop-left c in
-    omega (arith, end at.After-path_point_numbers-n, inside at.In-loop-left)
-
-pub overflow_add-at : goal.overflow_add-at
-overflow_add-at c =
-    let at = goal.at.overflow_add-at c in
-    omega (arith, end at.After-path_point_numbers-n, inside at.In-loop-left)
-
-pub overflow_add-at-in-loop-left : goal.overflow_add-at-in-loop-left
-overflow_add-at-in-loop-left c =
-    let at = goal.at.overflow_add-at-in-loop-left c in
-    omega (arith, end at.After-path_point_numbers-n, inside at.In-loop-left)
+path_point_numbers-n-requires c =
+    omega (arith, path_fits c.args.numbers.now _ (kept (goal.at.path_point_numbers-n-requires c).In-loop-k).0)
 
 -- the next path's offset, and those after it
 offsets_more : (l : List ℤ) (place n i : ℕ) → 0 < n → path_refusal l i ≡ 0
@@ -78,23 +44,30 @@ unfolding paths_at offsets
 offsets_end l place n i z = rw z
 
 -- the bytes stored are the next to come
-turn : {sheet₀ sheet after : List ℕ} {to₀ to : ℕ} {all : List ℕ} (numbers : List ℤ) (place left at n : ℕ) → 0 < left
-    → path_refusal numbers at ≡ 0 → n ≡ path_point_numbers numbers at → after ≡ sets sheet to (le32 place)
-    → Ahead sheet to (offsets place (paths_at numbers left at)) sheet₀ to₀ all
-    → Ahead after (to + offset_size) (offsets (place + (record_head + value_size * n)) (paths_at numbers (left - 1) (at + (path_head + n)))) sheet₀ to₀ all
-turn {sheet = sheet} {to = to} numbers place left at n some right points bytes ahead =
+turn : {sheet₀ sheet after : List ℕ} {to₀ : ℕ} {all : List ℕ} (numbers : List ℤ) (place paths k at n : ℕ) → k < paths
+    → path_refusal numbers at ≡ 0 → n ≡ path_point_numbers numbers at → after ≡ sets sheet (head_size k) (le32 place)
+    → Ahead sheet (head_size k) (offsets place (paths_at numbers (paths - k) at)) sheet₀ to₀ all
+    → Ahead after (head_size (k + 1)) (offsets (place + (record_head + value_size * n)) (paths_at numbers (paths - (k + 1)) (at + (path_head + n)))) sheet₀ to₀ all
+turn {sheet = sheet} numbers place paths k at n some right points bytes ahead =
     let next : at + (path_head + n) ≡ path_end numbers at = omega arith in
-    rw (bytes, next, points) (then (stored sheet to (le32 place) _) (rw (offsets_more numbers place left at some right) at ahead))
+    let less : paths - (k + 1) ≡ paths - k - 1 = omega arith in
+    let to : head_size (k + 1) ≡ head_size k + offset_size = omega arith in
+    let more = offsets_more numbers place (paths - k) at (omega arith) right in
+    rw (bytes, next, points, less, to) (then (stored sheet (head_size k) (le32 place) _) (rw more at ahead))
 
-pub loop-left-preserved : goal.loop-left-preserved
-loop-left-preserved c =
-    let at = goal.at.loop-left-preserved c in
-    let path = kept at.In-loop-left in
+pub loop-k-preserved : goal.loop-k-preserved
+loop-k-preserved c =
+    let at = goal.at.loop-k-preserved c in
+    let path = kept at.In-loop-k in
+    let less : c.args.paths - (c.loop-k.k + 1) ≡ c.args.paths - c.loop-k.k - 1 = omega arith in
+    let end : c.loop-k.at + (path_head + c.path_point_numbers-n.result) ≡ path_end c.args.numbers.now c.loop-k.at =
+    omega (arith, c.path_point_numbers-n.ensures) in
+    let bytes = c.put_u32.ensures ∙ ap (λ (to : ℕ). sets c.loop-k.sheet to (le32 c.loop-k.place)) c.head_size.ensures in
     let ahead =
-    turn c.args.numbers.now _ _ _ _ c.loop-left-test.true path.0 c.path_point_numbers-n.ensures c.put_u32.ensures c.loop-left.invariant.4 in
-    (omega arith, omega arith, omega arith, rw (end at.After-path_point_numbers-n) path.1, ahead)
+    turn c.args.numbers.now _ _ _ _ _ c.loop-k-test.true path.0 c.path_point_numbers-n.ensures bytes c.loop-k.invariant.2 in
+    (omega arith, rw (less, end) path.1, ahead)
 
 pub returns : goal.returns
 returns c =
-    let none : c.loop-left.left ≡ 0 = omega arith in
-    rw (← c.head_size-place.ensures) (stored_all (offsets_end _ c.loop-left.place _ c.loop-left.at none) c.loop-left.invariant.4)
+    let none : c.args.paths - c.loop-k.k ≡ 0 = omega arith in
+    rw (← c.head_size-place.ensures) (stored_all (offsets_end _ c.loop-k.place _ c.loop-k.at none) c.loop-k.invariant.2)
