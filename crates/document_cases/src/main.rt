@@ -2,48 +2,54 @@
 // document gives; a case of order 8, in which the width alone moves; A at the finest levels 6 and 12 of order 9; and a quadratic path of order 10.
 #![tactic(auto)]
 
-use coordinate::{Cubic, Quadratic, Registers};
-use engine::{Drawing, Moved};
-use entries::{Entry, Found};
-use path::{Drawn, Shape};
-use rules::{Degree, Limits};
+mod output;
 
-const OUT: i32 = 1;
+use coordinate::{Cubic, Quadratic, Registers};
+use engine::{Curve, Drawing, Refused};
+use entries::Entry;
+use output::{Fault, Output};
+use path::{Shape, Totals};
+use rules::{Degree, Limits};
+use std::fmt::{self, Write};
+
+const STDOUT_FILENO: i32 = 1;
+
+const STDERR_FILENO: i32 = 2;
+
+// Those of A.
+const LIMITS: Limits = Limits {
+    upper: 65536,
+    lower: 32768,
+};
 
 fn main() {
-    totals(b"A", listing(b"A", curve(0, 1, 2, 3), 11, 0));
-    listing(b"B", curve(3, 2, 1, 0), 11, 0);
-    operations(curve(0, 0, 0, 8));
-    steep(b"G", 1, 7);
-    steep(b"H", -1, 4);
-    verdict(b"I", start(kink(682), 0).refusal);
-    verdict(b"I", start(kink(683), 0).refusal);
-    verdict(b"J", start(flat(0), 11).refusal);
-    verdict(b"J", start(flat(0), 12).refusal);
-    verdict(b"J", start(flat(16383), 0).refusal);
-    verdict(b"J", start(flat(16384), 0).refusal);
-    listing(b"K", flat(5), 11, 5);
-    listing(b"L", curve(0, 0, 0, 8), 11, 0);
-    let m = start(curve(0, 0, 0, 8), 1).drawing.step();
-    position(b"M", m.drawing.q);
-    verdict(b"M", m.drawing.double().refusal);
-    lane(b"order 8", curve(0, 682, 1364, 2046));
-    listing(b"order 9", curve(0, 1, 2, 3), 6, 0);
-    listing(b"order 9", curve(0, 1, 2, 3), 12, 0);
-    outline(b"order 10");
-    verdict(b"order 10", start_quadratic(bend(0, 1023, 0)).refusal);
-    verdict(b"order 10", start_quadratic(bend(0, 1024, 0)).refusal);
+    if let Err(fault) = cases(&mut Output(STDOUT_FILENO)) {
+        let _ = writeln!(Output(STDERR_FILENO), "document_cases: {fault:?}");
+    }
+}
+
+fn cases(out: &mut Output) -> Result<(), Fault> {
+    let a = listing(out, "A", &on_x(0, 1, 2, 3), cubic(11, 0))?;
+    totals(out, "A", a)?;
+    listing(out, "B", &on_x(3, 2, 1, 0), cubic(11, 0))?;
+    operations(out)?;
+    steep(out)?;
+    refusals(out)?;
+    listing(out, "K", &on_x(5, 5, 5, 5), cubic(11, 5))?;
+    listing(out, "L", &on_x(0, 0, 0, 8), cubic(11, 0))?;
+    let m = start(curve(0, 0, 0, 8), flat(0), 1)?.step()?;
+    writeln!(out, "M q {}", m.q)?;
+    verdict(out, "M", m.double())?;
+    lane(out, "order 8")?;
+    listing(out, "order 9", &on_x(0, 1, 2, 3), cubic(6, 0))?;
+    listing(out, "order 9", &on_x(0, 1, 2, 3), cubic(12, 0))?;
+    outline(out, "order 10")
 }
 
 // ---- the curves: x as given, y and the width 0 throughout
 
 fn curve(p0: i32, p1: i32, p2: i32, p3: i32) -> Cubic {
-    Cubic {
-        p0: p0,
-        p1: p1,
-        p2: p2,
-        p3: p3,
-    }
+    Cubic { p0, p1, p2, p3 }
 }
 
 fn flat(p: i32) -> Cubic {
@@ -54,78 +60,89 @@ fn kink(p: i32) -> Cubic {
     curve(0, p, p, p)
 }
 
-fn start(x: Cubic, level: u32) -> Moved {
-    Drawing::start(x, flat(0), flat(0), 11, level)
+fn bend(p0: i32, p1: i32, p2: i32) -> Quadratic {
+    Quadratic { p0, p1, p2 }
 }
 
-fn bend(p0: i32, p1: i32, p2: i32) -> Quadratic {
-    Quadratic {
-        p0: p0,
-        p1: p1,
-        p2: p2,
+fn start<C: Curve>(x: C, zero: C, level: u32) -> Result<Drawing, Refused> {
+    Drawing::start(x, zero, zero, 11, level)
+}
+
+fn on_x(p0: i32, p1: i32, p2: i32, p3: i32) -> [i32; 12] {
+    [p0, 0, 0, p1, 0, 0, p2, 0, 0, p3, 0, 0]
+}
+
+// A path of one segment.
+fn cubic(finest: u32, level: u32) -> Shape {
+    Shape {
+        degree: Degree::Cubic,
+        segments: 1,
+        finest,
+        level,
     }
 }
 
-fn start_quadratic(x: Quadratic) -> Moved {
-    Drawing::start_quadratic(x, bend(0, 0, 0), bend(0, 0, 0), 11, 0)
+// ---- the cases
+
+// C to F.
+fn operations(out: &mut Output) -> Result<(), Fault> {
+    let c = start(curve(0, 0, 0, 8), flat(0), 0)?;
+    let d = c.halve()?;
+    let d2 = d.halve()?;
+    let e = d2.double()?;
+    let f = d2.step()?;
+    writeln!(out, "C a {} b {} c {} d {}", c.x.a, c.x.b, c.x.c, c.x.d)?;
+    abc(out, "D", d.x)?;
+    abc(out, "D", d2.x)?;
+    abc(out, "E", e.x)?;
+    bcd(out, "F", f.x)?;
+    writeln!(out, "F q {}", f.q)?;
+    Ok(())
 }
 
-// Cases C to F.
-fn operations(x: Cubic) {
-    let c = start(x, 0);
-    let d = c.drawing.halve();
-    let d2 = d.drawing.halve();
-    let e = d2.drawing.double();
-    let f = d2.drawing.step();
-    registers(b"C", c.drawing.x, 15);
-    registers(b"D", d.drawing.x, 7);
-    registers(b"D", d2.drawing.x, 7);
-    registers(b"E", e.drawing.x, 7);
-    registers(b"F", f.drawing.x, 14);
-    position(b"F", f.drawing.q);
+// G and H: 0, 0, 0, p at level 9, and stepped.
+fn steep(out: &mut Output) -> Result<(), Fault> {
+    let g = start(curve(0, 0, 0, 1), flat(0), 9)?;
+    abc(out, "G", g.x)?;
+    bcd(out, "G", g.step()?.x)?;
+    let h = start(curve(0, 0, 0, -1), flat(0), 9)?;
+    writeln!(out, "H c {}", h.x.c)?;
+    bcd(out, "H", h.step()?.x)?;
+    Ok(())
 }
 
-// Cases G and H: 0, 0, 0, p at level 9, and stepped.
-fn steep(name: &[u8], p: i32, given: u32) {
-    let m = start(curve(0, 0, 0, p), 9);
-    registers(name, m.drawing.x, given);
-    registers(name, m.drawing.step().drawing.x, 14);
+// I and J.
+fn refusals(out: &mut Output) -> fmt::Result {
+    verdict(out, "I", start(kink(682), flat(0), 0))?;
+    verdict(out, "I", start(kink(683), flat(0), 0))?;
+    verdict(out, "J", start(flat(0), flat(0), 11))?;
+    verdict(out, "J", start(flat(0), flat(0), 12))?;
+    verdict(out, "J", start(flat(16383), flat(0), 0))?;
+    verdict(out, "J", start(flat(16384), flat(0), 0))
 }
 
-// Cases A, B, K and L, and A at other finest levels: a path of one segment, drawn; its positions and its x.
-fn listing(name: &[u8], x: Cubic, finest: u32, level: u32) -> Drawn {
+// A, B, K and L, and A at other finest levels: a path, drawn; its positions and its x.
+fn listing(out: &mut Output, name: &str, points: &[i32], shape: Shape) -> Result<Totals, Fault> {
     let mut list = [0i32; 64];
-    let drawn = draw(x, flat(0), finest, level, &mut list);
-    column(name, b" positions", &list, drawn.points, 0);
-    column(name, b" x", &list, drawn.points, 1);
-    drawn
+    let drawn = drawer::draw(points, shape, LIMITS, &mut list)?;
+    column(out, name, "positions", &list, drawn, |e| e.position)?;
+    column(out, name, "x", &list, drawn, |e| e.x)?;
+    Ok(drawn)
 }
 
 // A width alone: its positions, its widths, and a length of 0.
-fn lane(name: &[u8], width: Cubic) {
+fn lane(out: &mut Output, name: &str) -> Result<(), Fault> {
+    let points = [0, 0, 0, 0, 0, 682, 0, 0, 1364, 0, 0, 2046];
     let mut list = [0i32; 64];
-    let drawn = draw(flat(0), width, 11, 0, &mut list);
-    column(name, b" positions", &list, drawn.points, 0);
-    column(name, b" width", &list, drawn.points, 3);
-    totals(name, drawn);
+    let drawn = drawer::draw(&points, cubic(11, 0), LIMITS, &mut list)?;
+    column(out, name, "positions", &list, drawn, |e| e.position)?;
+    column(out, name, "width", &list, drawn, |e| e.width)?;
+    totals(out, name, drawn)?;
+    Ok(())
 }
 
-fn draw(x: Cubic, width: Cubic, finest: u32, level: u32, list: &mut [i32]) -> Drawn {
-    let points = [
-        x.p0, 0, width.p0, x.p1, 0, width.p1, x.p2, 0, width.p2, x.p3, 0, width.p3,
-    ];
-    let shape = Shape {
-        degree: Degree::Cubic,
-        segments: 1,
-        finest: finest,
-        level: level,
-    };
-    drawer::draw(&points, shape, limits(), list)
-}
-
-// Two quadratic segments, x at 0, 1, 2 and then at 2, 4, 6; its positions, its x, and its length.
-fn outline(name: &[u8]) {
-    let mut list = [0i32; 64];
+// Two quadratic segments, x at 0, 1, 2 and then at 2, 4, 6; its positions, its x, and its length. Then neighbours 1,023 apart, and 1,024.
+fn outline(out: &mut Output, name: &str) -> Result<(), Fault> {
     let points = [0, 0, 0, 1, 0, 0, 2, 0, 0, 4, 0, 0, 6, 0, 0];
     let shape = Shape {
         degree: Degree::Quadratic,
@@ -133,95 +150,55 @@ fn outline(name: &[u8]) {
         finest: 11,
         level: 0,
     };
-    let drawn = drawer::draw(&points, shape, limits(), &mut list);
-    column(name, b" positions", &list, drawn.points, 0);
-    column(name, b" x", &list, drawn.points, 1);
-    totals(name, drawn);
-}
-
-// Those of A.
-fn limits() -> Limits {
-    Limits {
-        upper: 65536,
-        lower: 32768,
-    }
+    let drawn = listing(out, name, &points, shape)?;
+    totals(out, name, drawn)?;
+    verdict(out, name, start(bend(0, 1023, 0), bend(0, 0, 0), 0))?;
+    verdict(out, name, start(bend(0, 1024, 0), bend(0, 0, 0), 0))?;
+    Ok(())
 }
 
 // ---- lines
 
-// One number of each of a list's entries: 0 is the position, 1 x, 2 y, 3 the width.
-fn column(name: &[u8], label: &[u8], list: &[i32], points: u32, number: u32) {
-    io::write_all(OUT, name);
-    io::write_all(OUT, label);
-    let mut i: u32 = 0;
-    while i < points {
-        let Found::Here(e) = entries::entry_at(list, i as usize) else {
+// One number of each of a list's entries.
+fn column<F: Fn(Entry) -> i32>(
+    out: &mut Output,
+    name: &str,
+    label: &str,
+    list: &[i32],
+    drawn: Totals,
+    number: F,
+) -> fmt::Result
+    requires { F.IsAlwaysCallable number }
+{
+    write!(out, "{name} {label}")?;
+    for i in 0..drawn.points as usize {
+        let Some(e) = entries::entry_at(list, i) else {
             break;
         };
-        signed(b" ", number_of(e, number));
-        i += 1;
+        write!(out, " {}", number(e))?;
     }
-    io::write_all(OUT, b"\n");
+    writeln!(out)
 }
 
-fn number_of(e: Entry, number: u32) -> i32 {
-    match number {
-        0 => e.position,
-        1 => e.x,
-        2 => e.y,
-        _ => e.width,
-    }
+fn totals(out: &mut Output, name: &str, drawn: Totals) -> fmt::Result {
+    writeln!(
+        out,
+        "{name} points {} length {}",
+        drawn.points, drawn.length
+    )
 }
 
-fn totals(name: &[u8], drawn: Drawn) {
-    io::write_all(OUT, name);
-    io::write_all(OUT, b" points ");
-    io::print_decimal(OUT, drawn.points as u64);
-    io::write_all(OUT, b" length ");
-    io::print_decimal(OUT, drawn.length as u64);
-    io::write_all(OUT, b"\n");
+fn abc(out: &mut Output, name: &str, r: Registers) -> fmt::Result {
+    writeln!(out, "{name} a {} b {} c {}", r.a, r.b, r.c)
 }
 
-// The registers a, b, c, d that the bits 1, 2, 4, 8 of given ask for.
-fn registers(name: &[u8], r: Registers, given: u32) {
-    io::write_all(OUT, name);
-    if given % 2 == 1 {
-        signed(b" a ", r.a);
-    }
-    if given / 2 % 2 == 1 {
-        signed(b" b ", r.b);
-    }
-    if given / 4 % 2 == 1 {
-        signed(b" c ", r.c);
-    }
-    if given / 8 % 2 == 1 {
-        signed(b" d ", r.d);
-    }
-    io::write_all(OUT, b"\n");
+fn bcd(out: &mut Output, name: &str, r: Registers) -> fmt::Result {
+    writeln!(out, "{name} b {} c {} d {}", r.b, r.c, r.d)
 }
 
-fn position(name: &[u8], q: u32) {
-    io::write_all(OUT, name);
-    io::write_all(OUT, b" q ");
-    io::print_decimal(OUT, q as u64);
-    io::write_all(OUT, b"\n");
-}
-
-fn verdict(name: &[u8], refusal: u32) {
-    io::write_all(OUT, name);
-    if refusal == 0 {
-        io::write_all(OUT, b" accepted\n");
-        return;
+fn verdict(out: &mut Output, name: &str, moved: Result<Drawing, Refused>) -> fmt::Result {
+    match moved {
+        Ok(_) => writeln!(out, "{name} accepted"),
+        Err(r) => writeln!(out, "{name} refused {}", r.refusal.number()),
     }
-    io::write_all(OUT, b" refused ");
-    io::print_decimal(OUT, refusal as u64);
-    io::write_all(OUT, b"\n");
-}
-
-fn signed(label: &[u8], v: i32) {
-    io::write_all(OUT, label);
-    if v < 0 {
-        io::write_all(OUT, b"-");
-    }
-    io::print_decimal(OUT, words::magnitude(v as i64));
 }

@@ -1,5 +1,5 @@
-// Lists the sheet on standard input. A program has no exit status of its own: where standard output did not take the whole listing, standard
-// error says so.
+// Lists the sheet on standard input. Where standard output did not take the whole listing, standard error says so; the exit status stays 0,
+// since ./list reads standard error.
 #![tactic(auto)]
 
 const STDERR_FILENO: i32 = 2;

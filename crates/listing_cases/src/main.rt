@@ -6,38 +6,33 @@
 const STDIN_FILENO: i32 = 0;
 
 // The size before the last sheet, which ends where the input does.
-const TO_THE_END: u32 = 4294967295;
+const TO_THE_END: u32 = u32::MAX;
 
 // A proved loop has to end, and nothing says that the input does: no run has so many sheets.
 fn main() {
-    let mut turns: u32 = 1000000;
-    while 0 < turns && list_next() {
-        turns -= 1;
+    for _ in 0..1_000_000 {
+        if list_next().is_none() {
+            return;
+        }
     }
 }
 
-// One sheet; false where the input has ended, or has a size that is too large.
-fn list_next() -> bool {
+// One sheet; none where it was the last one, or the input has ended, or has a size that is too large.
+fn list_next() -> Option<()> {
     let mut head = [0u8; 4];
     if io::read_full(STDIN_FILENO, &mut head) < 4 {
-        return false;
+        return None;
     }
-    let size = words::word(head[0], head[1], head[2], head[3]);
-    let mut sheet = printing::sheet_buffer();
+    let size = u32::from_le_bytes(head);
+    let mut buffer = printing::sheet_buffer();
     if size == TO_THE_END {
-        printing::print_input(&mut sheet);
-        return false;
+        printing::print_input(&mut buffer);
+        return None;
     }
-    list_sheet(&mut sheet, size as usize)
-}
-
-fn list_sheet(sheet: &mut [u8], size: usize) -> bool {
-    if sheet.len() < size {
-        return false;
+    let sheet = buffer.get_mut(..size as usize)?;
+    if io::read_full(STDIN_FILENO, sheet) < sheet.len() {
+        return None;
     }
-    if io::read_full(STDIN_FILENO, &mut sheet[..size]) < size {
-        return false;
-    }
-    printing::print(&sheet[..size]);
-    true
+    printing::print(sheet);
+    Some(())
 }

@@ -1,5 +1,5 @@
 -- What stands in a request: words in its bytes, and in its words unsigned numbers, control points, drawings, degrees, shapes and limits.
-use Rattle.std.specs.Prelude.{Bool, cond, ◌||◌, List, ℕ, ◌+◌, ◌*◌, eqb, ℤ, pos, get_or}
+use Rattle.std.specs.Prelude.{cond, List, ℕ, ◌+◌, ◌*◌, eqb, ℤ, pos, get_or, Option, Some, None}
 use Rattle.std.specs.Int.{w32}
 use Rattle.std.proofs.Common.{of_z}
 use Rattle.rules.specs.declared.Degree.{Degree}
@@ -55,16 +55,16 @@ drawing_in words =
     }
 
 -- 2 is a quadratic and 3 a cubic; another number is let through by no request
-abbrev pub is_degree : ℕ → Bool
-is_degree n = eqb n 2 || eqb n 3
+abbrev pub degree_of : ℕ → Option Degree
+degree_of n = cond (eqb n 2) (Some Quadratic) (cond (eqb n 3) (Some Cubic) None)
 
-abbrev pub degree_of : ℕ → Degree
-degree_of n = cond (eqb n 2) Quadratic Cubic
+abbrev pub shaped : Option Degree → List ℤ → Option Shape
+shaped None words = None
+shaped (Some d) words = Some (record { degree = d; segments = unsigned_at words 1; finest = unsigned_at words 2; level = unsigned_at words 3 })
 
 -- degree segments finest level, and upper lower
-abbrev pub shape_in : List ℤ → Shape
-shape_in words =
-    record { degree = degree_of (unsigned_at words 0); segments = unsigned_at words 1; finest = unsigned_at words 2; level = unsigned_at words 3 }
+abbrev pub shape_in : List ℤ → Option Shape
+shape_in words = shaped (degree_of (unsigned_at words 0)) words
 
-abbrev pub limits_at : List ℤ → ℕ → Limits
-limits_at words at = record { upper = unsigned_at words at; lower = unsigned_at words (at + 1) }
+abbrev pub limits_in : List ℤ → Limits
+limits_in words = record { upper = unsigned_at words 0; lower = unsigned_at words 1 }

@@ -1,224 +1,193 @@
-// The answers to requests: each is false where the arguments are not so many as the code takes.
-ghost use Rattle.std.specs.Prelude.{◌≤◌, length};
+// The answers to requests: none where the arguments are not those of the code.
+ghost use Rattle.std.specs.Prelude.{◌≤◌, length, IfSome};
 
-use crate::input::{
-    cubic_of, drawing_of, fill_bytes, fill_numbers, is_degree, limits_at, quadratic_of, shape_of,
-    take_bytes, unsigned_at,
-};
-use crate::output::{
-    end_line, put_bytes, put_drawn, put_moved, put_next, put_numbers, put_shown, put_written,
-};
-use engine::{Drawing, Moved};
-use rules::COORDINATES;
-
-// The numbers of the control points of a segment of each degree, and of a drawing.
-const QUADRATIC: usize = COORDINATES * 3;
-
-const CUBIC: usize = COORDINATES * 4;
-
-const DRAWING: usize = 3 + 4 * COORDINATES;
-
-// And of a path's shape, and of limits.
-const SHAPE: usize = 4;
-
-const LIMITS: usize = 2;
+use crate::input::{Pointed, drawing_of, limits_of, shape_of, take_bytes};
+use crate::output::{end_line, put_drawn, put_list, put_moved, put_next, put_shown, put_written};
+use coordinate::{Cubic, Quadratic};
+use engine::{Drawing, Operation, Refused};
+use path::{Shape, Totals};
+use rules::Refusal;
+use text::Text;
 
 // The most places that a request asks for.
 const MOST_ROOM: usize = 16384;
+
+// What the lent places hold before a call.
+const NUMBER_BEFORE: i32 = -7;
+
+const BYTE_BEFORE: u8 = 7;
 
 pub(crate) fn answer(
     code: u32,
     words: &[i32],
     bytes: &mut [u8],
     list: &mut [i32],
-    text: &mut [u8],
-) -> bool
+    text: &mut Text,
+) -> Option<()>
     requires { (length words.now ≤ 16400) × (65600 ≤ length bytes.old) × (16384 ≤ length list.old) }
 {
     match code {
-        1 => answer_start(words, text),
-        2 | 3 | 4 => answer_operation(code, words, text),
-        5 => answer_next(words, text),
+        1 => answer_start::<Cubic>(words, text),
+        2 => answer_operation(words, Drawing::halve, text),
+        3 => answer_operation(words, Drawing::double, text),
+        4 => answer_operation(words, Drawing::step, text),
+        5 => answer_next(words, next, text),
         6 => answer_shown(words, text),
-        7 | 9 | 10 | 11 => answer_in_room(code, words, bytes, list, text),
-        8 => answer_measure(words, text),
-        12 => answer_measure_standard(words, text),
-        13 => answer_next_standard(words, text),
-        14 => answer_start_quadratic(words, text),
-        _ => false,
+        7 => answer_draw(words, draw, list, text),
+        8 => answer_path(words, measure, &mut [], text),
+        9 => answer_read(words, bytes, list, text),
+        10 => answer_write(words, bytes, text),
+        11 => answer_draw(words, draw_standard, list, text),
+        12 => answer_path(words, measure_standard, &mut [], text),
+        13 => answer_next(words, next_standard, text),
+        14 => answer_start::<Quadratic>(words, text),
+        _ => None,
     }
 }
 
-fn answer_start(words: &[i32], text: &mut [u8]) -> bool {
-    if words.len() != CUBIC + 2 {
-        return false;
-    }
-    let x = cubic_of(words, 0);
-    let y = cubic_of(words, 1);
-    let width = cubic_of(words, 2);
-    let finest = unsigned_at(words, CUBIC);
-    let level = unsigned_at(words, CUBIC + 1);
-    put_moved(text, Drawing::start(x, y, width, finest, level));
-    true
+// ---- the engine
+
+fn answer_start<C: Pointed>(words: &[i32], text: &mut Text) -> Option<()> {
+    let (points, rest) = words.split_at_checked(rules::point_numbers(C::degree(), 1))?;
+    let [finest, level] = *rest.as_array::<2>()?;
+    let x = C::of(points, 0);
+    let y = C::of(points, 1);
+    let width = C::of(points, 2);
+    let moved = Drawing::start(x, y, width, finest.cast_unsigned(), level.cast_unsigned());
+    put_moved(text, moved);
+    Some(())
 }
 
-fn answer_start_quadratic(words: &[i32], text: &mut [u8]) -> bool {
-    if words.len() != QUADRATIC + 2 {
-        return false;
-    }
-    let x = quadratic_of(words, 0);
-    let y = quadratic_of(words, 1);
-    let width = quadratic_of(words, 2);
-    let finest = unsigned_at(words, QUADRATIC);
-    let level = unsigned_at(words, QUADRATIC + 1);
-    put_moved(text, Drawing::start_quadratic(x, y, width, finest, level));
-    true
-}
-
-fn answer_operation(code: u32, words: &[i32], text: &mut [u8]) -> bool {
-    if words.len() != DRAWING {
-        return false;
-    }
-    put_moved(text, operate(code, drawing_of(words)));
-    true
-}
-
-fn operate(code: u32, d: Drawing) -> Moved {
-    if code == 2 {
-        return d.halve();
-    }
-    if code == 3 {
-        return d.double();
-    }
-    d.step()
-}
-
-fn answer_next(words: &[i32], text: &mut [u8]) -> bool {
-    if words.len() != DRAWING + LIMITS {
-        return false;
-    }
-    let limits = limits_at(words, DRAWING);
-    put_next(text, drawing_of(words).next(limits));
-    true
-}
-
-fn answer_next_standard(words: &[i32], text: &mut [u8]) -> bool {
-    if words.len() != DRAWING {
-        return false;
-    }
-    put_next(text, drawing_of(words).next_standard());
-    true
-}
-
-fn answer_shown(words: &[i32], text: &mut [u8]) -> bool {
-    if words.len() != DRAWING {
-        return false;
-    }
-    put_shown(text, drawing_of(words).shown());
-    true
-}
-
-fn answer_measure(words: &[i32], text: &mut [u8]) -> bool {
-    if words.len() < SHAPE + LIMITS {
-        return false;
-    }
-    if !is_degree(unsigned_at(words, 0)) {
-        return false;
-    }
-    let shape = shape_of(words);
-    let limits = limits_at(words, SHAPE);
-    let at = put_drawn(
-        text,
-        drawer::measure(&words[SHAPE + LIMITS..], shape, limits),
-    );
-    end_line(text, at);
-    true
-}
-
-fn answer_measure_standard(words: &[i32], text: &mut [u8]) -> bool {
-    if words.len() < SHAPE {
-        return false;
-    }
-    if !is_degree(unsigned_at(words, 0)) {
-        return false;
-    }
-    let shape = shape_of(words);
-    let at = put_drawn(text, drawer::measure_standard(&words[SHAPE..], shape));
-    end_line(text, at);
-    true
-}
-
-// ---- the answers of the codes whose first argument is the room: only so many places are lent
-
-fn answer_in_room(
-    code: u32,
+fn answer_operation<F: FnOnce(Drawing) -> Result<Drawing, Refused>>(
     words: &[i32],
-    bytes: &mut [u8],
+    operation: F,
+    text: &mut Text,
+) -> Option<()>
+    requires { F.IsAlwaysCallable operation }
+{
+    let d = drawing_of(words.as_array()?);
+    put_moved(text, operation(d));
+    Some(())
+}
+
+// What an entry chooses, by a drawing and the words after it.
+type Chosen = Option<Result<Operation, Refusal>>;
+
+fn answer_next<F: FnOnce(Drawing, &[i32]) -> Chosen>(
+    words: &[i32],
+    entry: F,
+    text: &mut Text,
+) -> Option<()>
+    requires { F.IsAlwaysCallable entry }
+{
+    let (d, rest) = words.split_first_chunk()?;
+    put_next(text, entry(drawing_of(d), rest)?);
+    Some(())
+}
+
+fn next(d: Drawing, words: &[i32]) -> Chosen {
+    Some(d.next(limits_of(words.as_array()?)))
+}
+
+fn next_standard(d: Drawing, words: &[i32]) -> Chosen {
+    words.is_empty().then(|| d.next_standard())
+}
+
+fn answer_shown(words: &[i32], text: &mut Text) -> Option<()> {
+    put_shown(text, drawing_of(words.as_array()?).shown());
+    Some(())
+}
+
+// ---- the drawer
+
+// What an entry answers of a path, by its shape and the words after it, and what it does with a lent list.
+type Drawn = Option<Result<Totals, Refusal>>;
+
+fn answer_draw<F: FnOnce(Shape, &[i32], &mut [i32]) -> Drawn>(
+    words: &[i32],
+    entry: F,
     list: &mut [i32],
-    text: &mut [u8],
-) -> bool
+    text: &mut Text,
+) -> Option<()>
+    requires callable { F.IsAlwaysCallable entry }
+    requires room { 16384 ≤ length list.old }
+{
+    let (room, rest) = room_of(words)?;
+    answer_path(rest, entry, &mut list[..room], text)
+}
+
+// Measuring lends no place.
+fn answer_path<F: FnOnce(Shape, &[i32], &mut [i32]) -> Drawn>(
+    words: &[i32],
+    entry: F,
+    list: &mut [i32],
+    text: &mut Text,
+) -> Option<()>
+    requires { F.IsAlwaysCallable entry }
+{
+    let (shape, rest) = words.split_first_chunk()?;
+    let shape = shape_of(shape)?;
+    list.fill(NUMBER_BEFORE);
+    put_drawn(text, entry(shape, rest, list)?);
+    put_list(text, list);
+    end_line(text);
+    Some(())
+}
+
+fn draw(shape: Shape, words: &[i32], list: &mut [i32]) -> Drawn {
+    let (limits, points) = words.split_first_chunk()?;
+    Some(drawer::draw(points, shape, limits_of(limits), list))
+}
+
+fn measure(shape: Shape, words: &[i32], _list: &mut [i32]) -> Drawn {
+    let (limits, points) = words.split_first_chunk()?;
+    Some(drawer::measure(points, shape, limits_of(limits)))
+}
+
+fn draw_standard(shape: Shape, points: &[i32], list: &mut [i32]) -> Drawn {
+    Some(drawer::draw_standard(points, shape, list))
+}
+
+fn measure_standard(shape: Shape, points: &[i32], _list: &mut [i32]) -> Drawn {
+    Some(drawer::measure_standard(points, shape))
+}
+
+// ---- the sheet
+
+fn answer_read(words: &[i32], bytes: &mut [u8], list: &mut [i32], text: &mut Text) -> Option<()>
     requires { (length words.now ≤ 16400) × (65600 ≤ length bytes.old) × (16384 ≤ length list.old) }
 {
-    if words.len() == 0 {
-        return false;
-    }
-    let room = unsigned_at(words, 0) as usize;
+    let (room, rest) = room_of(words)?;
+    let sheet = &mut bytes[..rest.len()];
+    take_bytes(rest, sheet);
+    let list = &mut list[..room];
+    list.fill(NUMBER_BEFORE);
+    put_written(text, reading::read(sheet, list));
+    put_list(text, list);
+    end_line(text);
+    Some(())
+}
+
+fn answer_write(words: &[i32], bytes: &mut [u8], text: &mut Text) -> Option<()>
+    requires { 65600 ≤ length bytes.old }
+{
+    let (room, rest) = room_of(words)?;
+    let sheet = &mut bytes[..room];
+    sheet.fill(BYTE_BEFORE);
+    put_written(text, writing::write(rest, sheet));
+    put_list(text, sheet);
+    end_line(text);
+    Some(())
+}
+
+// How many places are lent, and the words after that.
+fn room_of(words: &[i32]) -> Option<(usize, &[i32])>
+    ensures { IfSome result (λ p. (p.0 ≤ 16384) × (length p.1.now ≤ length words.now)) }
+{
+    let (room, rest) = words.split_first()?;
+    let room = room.cast_unsigned() as usize;
     if MOST_ROOM < room {
-        return false;
+        return None;
     }
-    let rest = &words[1..];
-    let size = rest.len();
-    match code {
-        7 => answer_draw(rest, &mut list[..room], text),
-        9 => answer_read(rest, &mut bytes[..size], &mut list[..room], text),
-        10 => answer_write(rest, &mut bytes[..room], text),
-        _ => answer_draw_standard(rest, &mut list[..room], text),
-    }
-}
-
-fn answer_draw(words: &[i32], list: &mut [i32], text: &mut [u8]) -> bool {
-    if words.len() < SHAPE + LIMITS {
-        return false;
-    }
-    if !is_degree(unsigned_at(words, 0)) {
-        return false;
-    }
-    let shape = shape_of(words);
-    let limits = limits_at(words, SHAPE);
-    fill_numbers(list);
-    let at = put_drawn(
-        text,
-        drawer::draw(&words[SHAPE + LIMITS..], shape, limits, list),
-    );
-    put_numbers(text, at, list);
-    true
-}
-
-fn answer_draw_standard(words: &[i32], list: &mut [i32], text: &mut [u8]) -> bool {
-    if words.len() < SHAPE {
-        return false;
-    }
-    if !is_degree(unsigned_at(words, 0)) {
-        return false;
-    }
-    let shape = shape_of(words);
-    fill_numbers(list);
-    let at = put_drawn(text, drawer::draw_standard(&words[SHAPE..], shape, list));
-    put_numbers(text, at, list);
-    true
-}
-
-fn answer_read(words: &[i32], sheet: &mut [u8], list: &mut [i32], text: &mut [u8]) -> bool {
-    take_bytes(words, sheet);
-    fill_numbers(list);
-    let at = put_written(text, reading::read(sheet, list));
-    put_numbers(text, at, list);
-    true
-}
-
-fn answer_write(words: &[i32], sheet: &mut [u8], text: &mut [u8]) -> bool {
-    fill_bytes(sheet);
-    let at = put_written(text, writing::write(words, sheet));
-    put_bytes(text, at, sheet);
-    true
+    Some((room, rest))
 }

@@ -1,11 +1,10 @@
 // Words of standard input, and what a request's words stand for.
 ghost use Rattle.std.specs.Prelude.{◌≡◌, ◌+◌, ◌*◌, ◌≤◌, ◌<◌, length};
-ghost use Rattle.rules.specs.declared.Degree.TheVariants as degree;
-ghost use Rattle.rules.specs.Rules.{coordinates};
-ghost use Rattle.probe.specs.Words.{unsigned_at, control_at, registers_at, drawing_in, is_degree, degree_of, shape_in, limits_at};
+ghost use Rattle.rules.specs.Rules.{coordinates, degree};
+ghost use Rattle.probe.specs.Words.{control_at, registers_at, drawing_in, degree_of, shape_in, limits_in};
 
 use coordinate::{Cubic, Quadratic, Registers};
-use engine::Drawing;
+use engine::{Curve, Drawing};
 use path::Shape;
 use rules::{COORDINATES, Degree, Limits};
 
@@ -26,47 +25,42 @@ pub(crate) fn take_words(bytes: &mut [u8], words: &mut [i32]) -> bool
     true
 }
 
-// A word as a number from 0 on.
-pub(crate) fn unsigned_at(words: &[i32], at: usize) -> u32
-    requires { at < length words.now }
-    ensures { result ≡ unsigned_at words.now at }
-{
-    words::bits(words[at])
+// One coordinate of the control points of a segment, which come point by point: x at 0, y at 1, the width at 2.
+pub(crate) trait Pointed: Curve {
+    fn of(points: &[i32], at: usize) -> Self
+        requires { at + degree Self.degree * coordinates < length points.now }
+        ensures { Self.control result ≡ control_at Self.degree points.now at };
 }
 
-// One coordinate of the control points, which come point by point: x at 0, y at 1, the width at 2.
-pub(crate) fn cubic_of(words: &[i32], at: usize) -> Cubic
-    requires { at + 3 * coordinates < length words.now }
-    ensures { result ≡ control_at degree.Cubic words.now at }
-{
-    Cubic {
-        p0: words[at],
-        p1: words[at + COORDINATES],
-        p2: words[at + 2 * COORDINATES],
-        p3: words[at + 3 * COORDINATES],
+impl Pointed for Cubic {
+    fn of(points: &[i32], at: usize) -> Cubic {
+        Cubic {
+            p0: points[at],
+            p1: points[at + COORDINATES],
+            p2: points[at + 2 * COORDINATES],
+            p3: points[at + 3 * COORDINATES],
+        }
     }
 }
 
-pub(crate) fn quadratic_of(words: &[i32], at: usize) -> Quadratic
-    requires { at + 2 * coordinates < length words.now }
-    ensures { result ≡ control_at degree.Quadratic words.now at }
-{
-    Quadratic {
-        p0: words[at],
-        p1: words[at + COORDINATES],
-        p2: words[at + 2 * COORDINATES],
+impl Pointed for Quadratic {
+    fn of(points: &[i32], at: usize) -> Quadratic {
+        Quadratic {
+            p0: points[at],
+            p1: points[at + COORDINATES],
+            p2: points[at + 2 * COORDINATES],
+        }
     }
 }
 
 // finest level q, then a b c d of x, of y, of the width.
-pub(crate) fn drawing_of(words: &[i32]) -> Drawing
-    requires { 15 ≤ length words.now }
+pub(crate) fn drawing_of(words: &[i32; 15]) -> Drawing
     ensures { result ≡ drawing_in words.now }
 {
     Drawing {
-        finest: unsigned_at(words, 0),
-        level: unsigned_at(words, 1),
-        q: unsigned_at(words, 2),
+        finest: words[0].cast_unsigned(),
+        level: words[1].cast_unsigned(),
+        q: words[2].cast_unsigned(),
         x: registers_of(words, 3),
         y: registers_of(words, 7),
         width: registers_of(words, 11),
@@ -85,44 +79,37 @@ fn registers_of(words: &[i32], at: usize) -> Registers
     }
 }
 
-// degree segments finest level.
-pub(crate) fn shape_of(words: &[i32]) -> Shape
-    requires { 4 ≤ length words.now }
+// DEGREE segments finest level; none where the DEGREE is neither 2 nor 3.
+pub(crate) fn shape_of(words: &[i32; 4]) -> Option<Shape>
     ensures { result ≡ shape_in words.now }
 {
-    let degree = degree_of(unsigned_at(words, 0));
-    Shape {
-        degree: degree,
-        segments: unsigned_at(words, 1),
-        finest: unsigned_at(words, 2),
-        level: unsigned_at(words, 3),
-    }
+    let [degree, segments, finest, level] = *words;
+    Some(Shape {
+        degree: degree_of(degree.cast_unsigned())?,
+        segments: segments.cast_unsigned(),
+        finest: finest.cast_unsigned(),
+        level: level.cast_unsigned(),
+    })
 }
 
-// The two numbers that a request may name as a degree.
-pub(crate) fn is_degree(n: u32) -> bool
-    ensures { result ≡ is_degree n }
-{
-    (n == 2) | (n == 3)
-}
-
-fn degree_of(n: u32) -> Degree
+fn degree_of(n: u32) -> Option<Degree>
     ensures { result ≡ degree_of n }
 {
-    if n == 2 {
-        return Degree::Quadratic;
+    match n {
+        2 => Some(Degree::Quadratic),
+        3 => Some(Degree::Cubic),
+        _ => None,
     }
-    Degree::Cubic
 }
 
 // upper lower.
-pub(crate) fn limits_at(words: &[i32], at: usize) -> Limits
-    requires { at + 1 < length words.now }
-    ensures { result ≡ limits_at words.now at }
+pub(crate) fn limits_of(words: &[i32; 2]) -> Limits
+    ensures { result ≡ limits_in words.now }
 {
+    let [upper, lower] = *words;
     Limits {
-        upper: unsigned_at(words, at),
-        lower: unsigned_at(words, at + 1),
+        upper: upper.cast_unsigned(),
+        lower: lower.cast_unsigned(),
     }
 }
 
@@ -131,14 +118,4 @@ pub(crate) fn take_bytes(words: &[i32], bytes: &mut [u8]) {
     for (byte, word) in bytes.iter_mut().zip(words) {
         *byte = word.to_le_bytes()[0];
     }
-}
-
-// ---- what the lent places hold before a call
-
-pub(crate) fn fill_numbers(list: &mut [i32]) {
-    list.fill(-7);
-}
-
-pub(crate) fn fill_bytes(bytes: &mut [u8]) {
-    bytes.fill(7);
 }

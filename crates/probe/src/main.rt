@@ -29,6 +29,7 @@ ghost use Rattle.std.specs.Prelude.{◌≡◌, ◌≤◌, length};
 use answers::answer;
 use input::take_words;
 use output::refuse;
+use text::Text;
 
 const STDIN_FILENO: i32 = 0;
 
@@ -40,12 +41,16 @@ fn main() {
     let mut bytes = [0u8; 65600];
     let mut words = [0i32; 16400];
     let mut list = [0i32; 16384];
-    let mut text = io::large_buffer();
+    let mut buffer = io::large_buffer();
+    let mut text = Text {
+        bytes: &mut buffer,
+        at: 0,
+    };
     run(&mut bytes, &mut words, &mut list, &mut text);
 }
 
 // A proved loop has to end, and nothing says that the input does: no run has so many requests.
-fn run(bytes: &mut [u8], words: &mut [i32], list: &mut [i32], text: &mut [u8])
+fn run(bytes: &mut [u8], words: &mut [i32], list: &mut [i32], text: &mut Text)
     requires { (65600 ≤ length bytes.old) × (16400 ≤ length words.old) × (16384 ≤ length list.old) }
 {
     for _ in 0..1_000_000_000_000_u64 {
@@ -56,7 +61,7 @@ fn run(bytes: &mut [u8], words: &mut [i32], list: &mut [i32], text: &mut [u8])
 }
 
 // Takes one request and answers it; false where the input has ended. Of a request whose K is out of range no argument is taken.
-fn request(bytes: &mut [u8], words: &mut [i32], list: &mut [i32], text: &mut [u8]) -> bool
+fn request(bytes: &mut [u8], words: &mut [i32], list: &mut [i32], text: &mut Text) -> bool
     requires { (65600 ≤ length bytes.old) × (16400 ≤ length words.old) × (16384 ≤ length list.old) }
 {
     let mut head = [0u8; 8];
@@ -69,8 +74,8 @@ fn request(bytes: &mut [u8], words: &mut [i32], list: &mut [i32], text: &mut [u8
         return false;
     }
     let [c0, c1, c2, c3, k0, k1, k2, k3] = head;
-    let code = words::word(c0, c1, c2, c3);
-    let count = words::word(k0, k1, k2, k3);
+    let code = u32::from_le_bytes([c0, c1, c2, c3]);
+    let count = u32::from_le_bytes([k0, k1, k2, k3]);
     if MOST_WORDS < count {
         refuse();
         return true;
@@ -80,7 +85,7 @@ fn request(bytes: &mut [u8], words: &mut [i32], list: &mut [i32], text: &mut [u8
         refuse();
         return false;
     }
-    if !answer(code, &words[..size], bytes, list, text) {
+    if answer(code, &words[..size], bytes, list, text).is_none() {
         refuse();
     }
     true

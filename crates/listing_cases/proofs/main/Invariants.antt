@@ -1,5 +1,0 @@
--- The turns fall.
-use Rattle.listing_cases.proofs.main.Given as goal
-
-abbrev pub decreases-loop-turns : goal.decreases-loop-turns
-decreases-loop-turns l = l.turns
