@@ -55,10 +55,6 @@ module _ (D : Degree) (W : ℕ) (p : Control D) where
         let its : f ≡ cond kept (coefficients (curve D p)) no_curve = h ∙ ap (λ (b : Bool). cond b (coefficients (curve D p)) no_curve) (sym some) in
         λ i. record { inside = e i; near = g i; curve = its i }
 
-    -- what the coefficients are reckoned of
-    pub kept_points : W ≤ most_reach D → inside && near ≡ true → (are_coordinates D p ≡ true) × (are_near D (most_reach D) p ≡ true)
-    kept_points h t = let both = and_true inside near t in (sym e ∙ both.0, near_further D h p (sym g ∙ both.1))
-
   checked_curve : are_coordinates D p ≡ true → are_near D W p ≡ true → curve_of (checked D W p).curve ≡ curve D p
   unfolding checked
   checked_curve e f = λ i. curve_of (cond (e i && f i) (coefficients (curve D p)) no_curve)

@@ -38,11 +38,11 @@ pub struct Drawing {
     pub width: Registers,
 }
 
-// Why a call was refused, with the drawing that it was given; of a start one with every number 0.
+// A refused call: the drawing that it was given, of a start one with every number 0, and why. The drawing is first, where an accepted one lies too.
 #[derive(Clone, Copy)]
 pub struct Refused {
-    pub refusal: Refusal,
     pub drawing: Drawing,
+    pub refusal: Refusal,
 }
 
 // The next operation.

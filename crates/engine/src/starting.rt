@@ -17,7 +17,8 @@ use crate::{Drawing, Refused};
 use coordinate::Registers;
 use rules::Refusal;
 
-// One coordinate of a start: whether it keeps rules 1 and 2, and where it keeps both its coefficients.
+// One coordinate of a start: whether it keeps rules 1 and 2, and where it keeps both its coefficients. No Option or Result: `checked` and `begun`
+// in specs/Checked speak of these fields, since 1 over all three coordinates comes before 2.
 #[derive(Clone, Copy)]
 pub(crate) struct Checked {
     pub(crate) inside: bool,

@@ -1,10 +1,9 @@
 // The operations on one coordinate, in 64 bits, since of registers that a caller made up the new ones may leave 32; landing; the point shown.
 ghost use Rattle.std.specs.Prelude.{◌≡◌, ◌≤◌};
 ghost use Rattle.rules.specs.Rules.{most_finest};
-ghost use Rattle.rules.specs.Numbered.{number};
 ghost use Rattle.coordinate.specs.Registers.{halve, double, step, turn};
 ghost use Rattle.coordinate.specs.Shown.{pixel};
-ghost use Rattle.engine.specs.Drawing.{refused, landed};
+ghost use Rattle.engine.specs.Drawing.{landed};
 ghost use Rattle.engine.specs.Moved.{answered};
 ghost use Rattle.engine.specs.Wide.{narrowed, Narrows};
 
@@ -127,8 +126,8 @@ pub(crate) fn refuse(refusal: Refusal, d: Drawing) -> Refused
     ensures { result ≡ record { refusal = refusal; drawing = d } }
 {
     Refused {
-        refusal: refusal,
         drawing: d,
+        refusal: refusal,
     }
 }
 
