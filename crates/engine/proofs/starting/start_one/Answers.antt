@@ -1,4 +1,4 @@
--- Every sum and product is below 2^63, and every register below 2^31, since the coefficients are small; what comes out is the start by `reckoned_start`.
+-- The coefficients are small: every sum and product is below 2^63, every register below 2^31; what comes out is the start by `reckoned_start`.
 use mathlib.Core.Path.{◌∙◌}
 use Prim.Native.Nat.{ℕ, ◌≤◌}
 use lib.IntN.{ℤ, pos, nat_abs, ◌+ℤ◌, ◌*ℤ◌}
