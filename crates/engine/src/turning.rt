@@ -91,6 +91,7 @@ pub(crate) fn step_one(r: Registers, n: u32) -> Wide
 }
 
 // The new drawing, of the old one's finest level, where its registers fit 32 bits; otherwise the old one, refused 10.
+#[tactic(auto, unfolding(crate::specs::Drawing::landed, operations::specs::Refusals::registers_refusal, operations::specs::Coordinates::every))]
 pub(crate) fn land(
     old: Drawing,
     level: u32,
@@ -101,24 +102,24 @@ pub(crate) fn land(
 ) -> Result<Drawing, Refused>
     ensures { answered result ≡ landed old (record { finest = old.finest; level = level; q = q; x = narrowed x; y = narrowed y; width = narrowed width }) }
 {
-    match (
-        Registers::try_from(x),
-        Registers::try_from(y),
-        Registers::try_from(width),
-    ) {
-        (Ok(x), Ok(y), Ok(width)) => {
-            let new = Drawing {
-                finest: old.finest,
-                level: level,
-                q: q,
-                x: x,
-                y: y,
-                width: width,
-            };
-            Ok(new)
-        }
-        _ => Err(refuse(Refusal::NoDrawing, old)),
-    }
+    let Ok(x) = Registers::try_from(x) else {
+        return Err(refuse(Refusal::NoDrawing, old));
+    };
+    let Ok(y) = Registers::try_from(y) else {
+        return Err(refuse(Refusal::NoDrawing, old));
+    };
+    let Ok(width) = Registers::try_from(width) else {
+        return Err(refuse(Refusal::NoDrawing, old));
+    };
+    let new = Drawing {
+        finest: old.finest,
+        level: level,
+        q: q,
+        x: x,
+        y: y,
+        width: width,
+    };
+    Ok(new)
 }
 
 // A refusal hands back the drawing that it is given.
