@@ -1,12 +1,12 @@
 // The operations on one coordinate, in 64 bits, since of registers that a caller made up the new ones may leave 32; landing; the point shown.
 ghost use Rattle.std.specs.Prelude.{◌≡◌, ◌≤◌};
-ghost use Rattle.rules.specs.Rules.{most_finest};
 ghost use Rattle.coordinate.specs.Registers.{halve, double, step, turn};
 ghost use Rattle.coordinate.specs.Shown.{pixel};
 ghost use Rattle.engine.specs.Drawing.{landed};
 ghost use Rattle.engine.specs.Moved.{answered};
 ghost use Rattle.engine.specs.Wide.{narrowed, Narrows};
 
+use crate::place::Place;
 use crate::{Drawing, Refused};
 use coordinate::Registers;
 use rules::Refusal;
@@ -49,9 +49,8 @@ impl TryFrom<Wide> for Registers {
     }
 }
 
-pub(crate) fn halve_one(r: Registers, n: u32) -> Wide
-    requires { n ≤ most_finest }
-    ensures { narrowed result ≡ turn halve n r }
+pub(crate) fn halve_one(r: Registers, at: Place) -> Wide
+    ensures { narrowed result ≡ turn halve at.level r }
 {
     let old = Wide::from(r);
     let a = old.a >> 1;
@@ -59,34 +58,32 @@ pub(crate) fn halve_one(r: Registers, n: u32) -> Wide
     Wide {
         a: a,
         b: b,
-        c: old.c - (b >> (n + 2)),
+        c: old.c - (b >> (at.level + 2)),
         d: old.d,
     }
 }
 
-pub(crate) fn double_one(r: Registers, n: u32) -> Wide
-    requires { n ≤ most_finest }
-    ensures { narrowed result ≡ turn double n r }
+pub(crate) fn double_one(r: Registers, at: Place) -> Wide
+    ensures { narrowed result ≡ turn double at.level r }
 {
     let old = Wide::from(r);
     Wide {
         a: 2 * old.a,
         b: old.b + old.a,
-        c: old.c + (old.b >> (n + 1)),
+        c: old.c + (old.b >> (at.level + 1)),
         d: old.d,
     }
 }
 
-pub(crate) fn step_one(r: Registers, n: u32) -> Wide
-    requires { n ≤ most_finest }
-    ensures { narrowed result ≡ turn step n r }
+pub(crate) fn step_one(r: Registers, at: Place) -> Wide
+    ensures { narrowed result ≡ turn step at.level r }
 {
     let old = Wide::from(r);
     Wide {
         a: old.a,
         b: old.b + old.a,
-        c: old.c + (old.b >> n),
-        d: old.d + (old.c >> n),
+        c: old.c + (old.b >> at.level),
+        d: old.d + (old.c >> at.level),
     }
 }
 
