@@ -1,6 +1,7 @@
 -- A refusal hands the drawing back; otherwise the coordinates are stepped and land, one stride on.
 use mathlib.Core.Path.{◌≡◌, refl, sym, ap, ◌∙◌}
-use Prim.Native.Nat.{ℕ, zero, suc, ◌+◌, ◌^◌, ◌≤◌}
+use Prim.Native.Nat.{ℕ, zero, suc, ◌+◌, ◌≤◌}
+use native.Mathlib.Nat.{le_trans}
 use native.Mathlib.Omega.{arith}
 use lib.Pow.{pow_mono}
 use Rattle.std.proofs.Common.{rules}
@@ -8,7 +9,7 @@ use Rattle.std.specs.Prelude.{Ok, Err}
 use Rattle.rules.specs.Refusals.{first_of}
 use Rattle.rules.proofs.Numbered.{number_positive}
 use Rattle.coordinate.specs.Registers.{step}
-use Rattle.operations.specs.Lawful.{Open}
+use Rattle.operations.specs.Position.{stride}
 use Rattle.operations.specs.Refusals.{gate, call_refusal}
 use Rattle.operations.proofs.Gates.{opens}
 use Rattle.operations.proofs.Stays.{step_within}
@@ -27,6 +28,13 @@ only_gate (suc k) = refl
 stands : (c : In_ok-at) → let d = c.args.self in Stands (gate d.finest d.level d.q) d.finest d.level d.q (Ok c.in_ok-at.at)
 stands c = stood _ _ c.of.ensures c.map_err.ensures.cases c.map_err.ensures.variant c.in_ok-at.was
 
+-- the next position is within the drawing
+within : (c : In_ok-at) → let at = c.in_ok-at.at in at.q + stride at.finest at.level ≤ 4096
+within c =
+    let at = c.in_ok-at.at in
+    let s = stands c in
+    le_trans (step_within at.finest at.level at.q (rw s.1 (rw s.2 (rw s.3 (opens _ _ _ s.0))))) (pow_mono {j = 12} at.levels.0)
+
 pub returns-in_err-at : goal.returns-in_err-at
 unfolding call_refusal
 returns-in_err-at c =
@@ -36,11 +44,8 @@ returns-in_err-at c =
 
 pub overflow_add-at : goal.overflow_add-at
 overflow_add-at c =
-    let s = stands (goal.at.overflow_add-at c).In_ok-at in
-    let at = c.in_ok-at.at in
-    let o : Open at.finest at.level at.q = rw s.1 (rw s.2 (rw s.3 (opens _ _ _ s.0))) in
-    let end : 2 ^ _ ≤ 4096 = pow_mono {j = 12} at.levels.0 in
-    omega (arith, c.stride.ensures, step_within _ _ _ o, end)
+    let most = within (goal.at.overflow_add-at c).In_ok-at in
+    omega (arith, c.stride.ensures, most)
 
 pub returns : goal.returns
 unfolding call_refusal
