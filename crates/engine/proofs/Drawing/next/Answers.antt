@@ -1,25 +1,19 @@
 -- A refusal names no operation. Otherwise the tests are those of `choose`: a doubled increment is reckoned only where all else asks to double.
 use mathlib.Core.Path.{◌≡◌, sym, ap, ◌∙◌}
 use mathlib.Core.Bool.{Bool, true, false, cond, ◌&&◌, ◌||◌}
-use Prim.Native.Nat.{ℕ, ◌≤◌}
+use Prim.Native.Nat.{ℕ}
 use lib.Dec.{leb, ltb}
 use mir.Facts.{to_z-of_z}
-use native.Mathlib.Nat.{le_trans}
-use borrow.Author.Tests.{ltb-true}
 use Rattle.std.proofs.Common.{rules}
 use Rattle.std.specs.Prelude.{Err}
-use Rattle.numbers.proofs.Tests.{and_three}
-use Rattle.rules.specs.Rules.{most_finest}
 use Rattle.rules.proofs.Refusals.{refuses}
 use Rattle.rules.proofs.Numbered.{number_positive}
 use Rattle.coordinate.specs.Registers.{halve, double, step}
 use Rattle.coordinate.specs.Increment.{increment, doubled_increment}
 use Rattle.coordinate.proofs.Bits.{Fits32}
-use Rattle.operations.specs.Lawful.{Inside}
 use Rattle.operations.specs.Position.{is_aligned}
 use Rattle.operations.specs.Refusals.{choice_refusal}
 use Rattle.operations.specs.Choice.{wants_halve, wants_double, choose}
-use Rattle.operations.proofs.Gates.{choice_opens}
 use Rattle.engine.specs.declared.Drawing.{Drawing}
 use Rattle.engine.specs.Drawing.{of}
 use Rattle.engine.specs.Choice.{said, says, refused_by, choice}
