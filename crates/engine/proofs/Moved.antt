@@ -1,25 +1,25 @@
--- A refusal by its number: what a first table answered is not 0, so that it is the answer; and a call's answer is determined by its numbers.
-use mathlib.Core.Path.{◌≡◌, refl, sym, ap, ◌∙◌}
+-- What `?` hands on of a place or a refusal after `map_err`; and a call's answer is determined by its numbers.
+use mathlib.Core.Path.{◌≡◌, refl, sym, ap, subst, ◌∙◌}
 use mathlib.Core.Bool.{true≢false}
 use Prim.Native.Nat.{ℕ}
-use Rattle.std.specs.Prelude.{Result, Ok, Err, is_ok}
+use Rattle.std.specs.Prelude.{Result, Ok, Err, is_ok, MatchResult}
 use Rattle.rules.specs.declared.refused.Refusal.{Refusal}
-use Rattle.rules.specs.Refusals.{first_of}
-use Rattle.rules.specs.Numbered.{number, refusal_of}
-use Rattle.rules.proofs.Refusals.{first_stop}
 use Rattle.rules.proofs.Numbered.{number_positive, number_determines}
 use Rattle.engine.specs.declared.Drawing.{Drawing}
 use Rattle.engine.specs.declared.Refused.{Refused}
+use Rattle.engine.specs.declared.place.Place.{Place}
 use Rattle.engine.specs.Moved.{Moved, answered}
+use Rattle.engine.specs.Place.{Stands}
 
--- a refusal of the first table is the answer of both
-pub first_refuses : (r : Refusal) (rest : ℕ) {k : ℕ} → number r ≡ k → number r ≡ first_of k rest
-first_refuses r rest {k} e = e ∙ sym (first_stop k rest (λ z. number_positive r (e ∙ z)))
-
--- nothing was refused where something was answered
-pub passed : {A E : Type 0} (r : Result A Refusal) {m : Result A E} {x : A} → is_ok m ≡ is_ok r → m ≡ Ok x → refusal_of r ≡ 0
-passed (Ok y) e f = refl
-passed (Err s) e f = absurd (true≢false (sym (ap is_ok f) ∙ e))
+-- what is handed on where nothing was refused is the place that was answered
+pub stood : {E : Type 0} {k F n q : ℕ} (r : Result Place Refusal) (Q : Refusal → Type 0) {m : Result Place E} {at : Place} → Stands k F n q r
+    → MatchResult r (λ p. m ≡ Ok p) Q → is_ok m ≡ is_ok r → m ≡ Ok at → Stands k F n q (Ok at)
+stood {k = k} {F = F} {n = n} {q = q} (Ok p) Q s same e f = subst (λ (x : Place). Stands k F n q (Ok x)) (ap (kept p) (sym same ∙ f)) s
+  where
+    kept : {E : Type 0} → Place → Result Place E → Place
+    kept p (Ok x) = x
+    kept p (Err e) = p
+stood (Err r) Q s same e f = absurd (true≢false (sym (ap is_ok f) ∙ e))
 
 -- and what was refused
 pub stopped : {A E : Type 0} (r : Result A Refusal) {m : Result A E} {x : E} → is_ok m ≡ is_ok r → m ≡ Err x → (s : Refusal) × (r ≡ Err s)

@@ -6,3 +6,4 @@ pub mod Checked
 pub mod Choice
 pub mod Shown
 pub mod Wide
+pub mod Place

@@ -4,8 +4,8 @@
 mod choosing;
 mod cubic;
 mod curve;
+mod place;
 mod quadratic;
-mod refusals;
 mod starting;
 mod turning;
 
@@ -22,7 +22,7 @@ ghost use Rattle.engine.specs.Shown.{point};
 use choosing::{doubled_increment_of, increment_of};
 use coordinate::Registers;
 pub use curve::{Coefficients, Curve};
-use refusals::{check_choice, check_double, check_gate, check_halve, is_aligned, stride};
+use place::Place;
 use rules::{Limits, Refusal};
 use starting::{begin, check};
 use turning::{double_one, halve_one, land, pixel_of, refuse, step_one};
@@ -83,64 +83,54 @@ impl Drawing {
     pub fn halve(self) -> Result<Drawing, Refused>
         ensures { answered result ≡ called halve self }
     {
-        let level = self.level;
-        let q = self.q;
-        check_halve(self.finest, level, q).map_err(|refusal| refuse(refusal, self))?;
-        let x = halve_one(self.x, level);
-        let y = halve_one(self.y, level);
-        let width = halve_one(self.width, level);
-        land(self, level + 1, q, x, y, width)
+        let at = Place::to_halve(self).map_err(|refusal| refuse(refusal, self))?;
+        let x = halve_one(self.x, at);
+        let y = halve_one(self.y, at);
+        let width = halve_one(self.width, at);
+        land(self, at.level + 1, at.q, x, y, width)
     }
 
     // One level coarser. Refuses 10, 5, 7, 8, 10, with the drawing as it was.
     pub fn double(self) -> Result<Drawing, Refused>
         ensures { answered result ≡ called double self }
     {
-        let level = self.level;
-        let q = self.q;
-        check_double(self.finest, level, q).map_err(|refusal| refuse(refusal, self))?;
-        let x = double_one(self.x, level);
-        let y = double_one(self.y, level);
-        let width = double_one(self.width, level);
-        land(self, level - 1, q, x, y, width)
+        let at = Place::to_double(self).map_err(|refusal| refuse(refusal, self))?;
+        let x = double_one(self.x, at);
+        let y = double_one(self.y, at);
+        let width = double_one(self.width, at);
+        land(self, at.level - 1, at.q, x, y, width)
     }
 
     // One step on. Refuses 10, 5, 10, with the drawing as it was.
     pub fn step(self) -> Result<Drawing, Refused>
         ensures { answered result ≡ called step self }
     {
-        let finest = self.finest;
-        let level = self.level;
-        let q = self.q;
-        check_gate(finest, level, q).map_err(|refusal| refuse(refusal, self))?;
-        let x = step_one(self.x, level);
-        let y = step_one(self.y, level);
-        let width = step_one(self.width, level);
-        land(self, level, q + stride(finest, level), x, y, width)
+        let at = Place::of(self).map_err(|refusal| refuse(refusal, self))?;
+        let x = step_one(self.x, at);
+        let y = step_one(self.y, at);
+        let width = step_one(self.width, at);
+        land(self, at.level, at.q + at.stride(), x, y, width)
     }
 
     // The operation that the three rules choose under these limits, by x and y alone. Refuses 4, 10, 5.
     pub fn next(self, limits: Limits) -> Result<Operation, Refusal>
         ensures { said result ≡ choice limits.upper limits.lower self }
     {
-        let finest = self.finest;
-        let level = self.level;
-        let q = self.q;
-        check_choice(limits, finest, level, q)?;
+        let at = Place::to_choose(self, limits)?;
         let upper = limits.upper;
         let lower = limits.lower;
-        let x = increment_of(self.x.c, level);
-        let y = increment_of(self.y.c, level);
-        if ((upper < x) | (upper < y)) & (level < finest) {
+        let x = increment_of(self.x.c, at);
+        let y = increment_of(self.y.c, at);
+        if ((upper < x) | (upper < y)) & (at.level < at.finest) {
             return Ok(Operation::Halve);
         }
         // A doubled increment is reckoned only where all else asks to double.
         let smaller = (x < lower) & (y < lower);
-        if !((0 < level) & smaller & is_aligned(finest, level, q)) {
+        if !((0 < at.level) & smaller & at.is_aligned()) {
             return Ok(Operation::Step);
         }
-        let doubled_x = doubled_increment_of(self.x.b, self.x.c, level);
-        let doubled_y = doubled_increment_of(self.y.b, self.y.c, level);
+        let doubled_x = doubled_increment_of(self.x.b, self.x.c, at);
+        let doubled_y = doubled_increment_of(self.y.b, self.y.c, at);
         let most = u64::from(upper);
         if (doubled_x <= most) & (doubled_y <= most) {
             return Ok(Operation::Double);

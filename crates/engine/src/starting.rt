@@ -1,17 +1,17 @@
 // The start of a drawing of either degree: its refusals, and its registers, from the coefficients of its curves.
-ghost use Rattle.std.specs.Prelude.{◌≡◌, ◌≤◌};
-ghost use Rattle.rules.specs.Numbered.{refusal_of};
-ghost use Rattle.rules.specs.Rules.{most_finest};
+ghost use Rattle.std.specs.Prelude.{◌≡◌};
 ghost use Rattle.coordinate.specs.Curve.{Mild};
 ghost use Rattle.coordinate.specs.Registers.{start_registers};
 ghost use Rattle.operations.specs.Coordinates.{pick};
 ghost use Rattle.operations.specs.Refusals.{begin_refusal};
+ghost use Rattle.engine.specs.Place.{Stands};
 ghost use Rattle.engine.specs.Start.{nothing_drawn};
 ghost use Rattle.engine.specs.Moved.{answered};
 ghost use Rattle.engine.specs.Coefficients.{curve_of, no_curve};
 ghost use Rattle.engine.specs.Checked.{checked, begun};
 
 use crate::curve::{Coefficients, Curve};
+use crate::place::Place;
 use crate::turning::refuse;
 use crate::{Drawing, Refused};
 use coordinate::Registers;
@@ -58,20 +58,22 @@ pub(crate) fn begin(
 {
     let inside = x.inside & y.inside & width.inside;
     let near = x.near & y.near & width.near;
-    check_begin(finest, inside, near, level).map_err(|refusal| refuse(refusal, nothing()))?;
+    let checked = check_begin(finest, inside, near, level);
+    let at = checked.map_err(|refusal| refuse(refusal, nothing()))?;
     Ok(Drawing {
-        finest: finest,
-        level: level,
-        q: 0,
-        x: start_one(x.curve, level),
-        y: start_one(y.curve, level),
-        width: start_one(width.curve, level),
+        finest: at.finest,
+        level: at.level,
+        q: at.q,
+        x: start_one(x.curve, at),
+        y: start_one(y.curve, at),
+        width: start_one(width.curve, at),
     })
 }
 
-// By whether all points are coordinates, and all neighbours near.
-fn check_begin(finest: u32, inside: bool, near: bool, level: u32) -> Result<(), Refusal>
-    ensures { refusal_of result ≡ begin_refusal finest inside near level }
+// Where it starts, by whether all points are coordinates, and all neighbours near.
+#[tactic(auto, unfolding(operations::specs::Refusals::begin_refusal, rules::specs::Rules::is_finest, rules::specs::Rules::is_level))]
+fn check_begin(finest: u32, inside: bool, near: bool, level: u32) -> Result<Place, Refusal>
+    ensures { Stands (begin_refusal finest inside near level) finest level 0 result }
 {
     if !rules::finest(finest) {
         return Err(Refusal::FinestLevel);
@@ -85,20 +87,24 @@ fn check_begin(finest: u32, inside: bool, near: bool, level: u32) -> Result<(), 
     if !rules::level(finest, level) {
         return Err(Refusal::StartLevel);
     }
-    Ok(())
+    Ok(Place {
+        finest: finest,
+        level: level,
+        q: 0,
+    })
 }
 
 // The coefficients are small: every register fits 32 bits.
-fn start_one(f: Coefficients, n: u32) -> Registers
-    requires { (n ≤ most_finest) × Mild (curve_of f) }
-    ensures { result ≡ start_registers n (curve_of f) }
+fn start_one(f: Coefficients, at: Place) -> Registers
+    requires { Mild (curve_of f) }
+    ensures { result ≡ start_registers at.level (curve_of f) }
 {
     let cubic = 65536 * f.a;
     let square = 65536 * f.b;
     let linear = 65536 * f.c;
-    let a = (6 * cubic) >> n;
+    let a = (6 * cubic) >> at.level;
     let b = a + 2 * square;
-    let c = linear + ((square + (cubic >> n)) >> n);
+    let c = linear + ((square + (cubic >> at.level)) >> at.level);
     let d = 65536 * f.d;
     Registers {
         a: a as i32,

@@ -1,12 +1,12 @@
 // The operations on one coordinate, in 64 bits, since of registers that a caller made up the new ones may leave 32; landing; the point shown.
 ghost use Rattle.std.specs.Prelude.{◌≡◌, ◌≤◌};
-ghost use Rattle.rules.specs.Rules.{most_finest};
 ghost use Rattle.coordinate.specs.Registers.{halve, double, step, turn};
 ghost use Rattle.coordinate.specs.Shown.{pixel};
 ghost use Rattle.engine.specs.Drawing.{landed};
 ghost use Rattle.engine.specs.Moved.{answered};
 ghost use Rattle.engine.specs.Wide.{narrowed, Narrows};
 
+use crate::place::Place;
 use crate::{Drawing, Refused};
 use coordinate::Registers;
 use rules::Refusal;
@@ -49,9 +49,8 @@ impl TryFrom<Wide> for Registers {
     }
 }
 
-pub(crate) fn halve_one(r: Registers, n: u32) -> Wide
-    requires { n ≤ most_finest }
-    ensures { narrowed result ≡ turn halve n r }
+pub(crate) fn halve_one(r: Registers, at: Place) -> Wide
+    ensures { narrowed result ≡ turn halve at.level r }
 {
     let old = Wide::from(r);
     let a = old.a >> 1;
@@ -59,38 +58,37 @@ pub(crate) fn halve_one(r: Registers, n: u32) -> Wide
     Wide {
         a: a,
         b: b,
-        c: old.c - (b >> (n + 2)),
+        c: old.c - (b >> (at.level + 2)),
         d: old.d,
     }
 }
 
-pub(crate) fn double_one(r: Registers, n: u32) -> Wide
-    requires { n ≤ most_finest }
-    ensures { narrowed result ≡ turn double n r }
+pub(crate) fn double_one(r: Registers, at: Place) -> Wide
+    ensures { narrowed result ≡ turn double at.level r }
 {
     let old = Wide::from(r);
     Wide {
         a: 2 * old.a,
         b: old.b + old.a,
-        c: old.c + (old.b >> (n + 1)),
+        c: old.c + (old.b >> (at.level + 1)),
         d: old.d,
     }
 }
 
-pub(crate) fn step_one(r: Registers, n: u32) -> Wide
-    requires { n ≤ most_finest }
-    ensures { narrowed result ≡ turn step n r }
+pub(crate) fn step_one(r: Registers, at: Place) -> Wide
+    ensures { narrowed result ≡ turn step at.level r }
 {
     let old = Wide::from(r);
     Wide {
         a: old.a,
         b: old.b + old.a,
-        c: old.c + (old.b >> n),
-        d: old.d + (old.c >> n),
+        c: old.c + (old.b >> at.level),
+        d: old.d + (old.c >> at.level),
     }
 }
 
 // The new drawing, of the old one's finest level, where its registers fit 32 bits; otherwise the old one, refused 10.
+#[tactic(auto, unfolding(crate::specs::Drawing::landed, operations::specs::Refusals::registers_refusal, operations::specs::Coordinates::every))]
 pub(crate) fn land(
     old: Drawing,
     level: u32,
@@ -101,24 +99,24 @@ pub(crate) fn land(
 ) -> Result<Drawing, Refused>
     ensures { answered result ≡ landed old (record { finest = old.finest; level = level; q = q; x = narrowed x; y = narrowed y; width = narrowed width }) }
 {
-    match (
-        Registers::try_from(x),
-        Registers::try_from(y),
-        Registers::try_from(width),
-    ) {
-        (Ok(x), Ok(y), Ok(width)) => {
-            let new = Drawing {
-                finest: old.finest,
-                level: level,
-                q: q,
-                x: x,
-                y: y,
-                width: width,
-            };
-            Ok(new)
-        }
-        _ => Err(refuse(Refusal::NoDrawing, old)),
-    }
+    let Ok(x) = Registers::try_from(x) else {
+        return Err(refuse(Refusal::NoDrawing, old));
+    };
+    let Ok(y) = Registers::try_from(y) else {
+        return Err(refuse(Refusal::NoDrawing, old));
+    };
+    let Ok(width) = Registers::try_from(width) else {
+        return Err(refuse(Refusal::NoDrawing, old));
+    };
+    let new = Drawing {
+        finest: old.finest,
+        level: level,
+        q: q,
+        x: x,
+        y: y,
+        width: width,
+    };
+    Ok(new)
 }
 
 // A refusal hands back the drawing that it is given.

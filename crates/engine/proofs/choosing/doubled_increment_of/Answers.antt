@@ -11,10 +11,10 @@ use Rattle.engine.proofs.choosing.doubled_increment_of.Goals as goal
 use Rattle.engine.proofs.choosing.doubled_increment_of.Goals.{After-from-2}
 
 abbrev b_by : After-from-2 → ℕ
-b_by c = c.args.n + 1
+b_by c = c.args.at.level + 1
 
 abbrev c_by : After-from-2 → ℕ
-c_by c = c.args.n - 1
+c_by c = c.args.at.level - 1
 
 abbrev b : (c : After-from-2) → Num 2147483648 c.args.b
 b c = from_field c.ranges.b c.from-2.ensures
@@ -30,4 +30,4 @@ returns c r b_is c_is =
     let s = (goal.at.returns c).After-from-2 in
     c.unsigned_abs.ensures.value
     ∙ ap nat_abs ((shifted s).is ∙ ap₂ (λ (y z : ℤ). (z +ℤ (y >> b_by s)) >> c_by s) (sym b_is) (sym c_is))
-    ∙ sym (doubled_from_b_and_c c.args.n r)
+    ∙ sym (doubled_from_b_and_c c.args.at.level r)

@@ -16,7 +16,7 @@ abbrev f : Start → Curve
 f c = curve_of c.args.f
 
 abbrev n : Start → ℕ
-n c = c.args.n
+n c = c.args.at.level
 
 small : (z : ℤ) {m : ℕ} → nat_abs z ≤ m → Size z m
 small z h = record { le = h }
@@ -24,13 +24,13 @@ small z h = record { le = h }
 -- ---- the numbers of the code
 
 abbrev cubic : (c : Start) → Num 178782208 (unit *ℤ (f c).A)
-cubic c = times (literal 65536) (known w64 tt (small (f c).A c.requires.1.A))
+cubic c = times (literal 65536) (known w64 tt (small (f c).A c.requires.A))
 
 abbrev square : (c : Start) → Num 268173312 (unit *ℤ (f c).B)
-square c = times (literal 65536) (known w64 tt (small (f c).B c.requires.1.B))
+square c = times (literal 65536) (known w64 tt (small (f c).B c.requires.B))
 
 abbrev linear : (c : Start) → Num 134086656 (unit *ℤ (f c).C)
-linear c = times (literal 65536) (known w64 tt (small (f c).C c.requires.1.C))
+linear c = times (literal 65536) (known w64 tt (small (f c).C c.requires.C))
 
 abbrev six_cubic : (c : Start) → Num 1072693248 (pos 6 *ℤ (unit *ℤ (f c).A))
 six_cubic c = times (literal 6) (local w64 tt (cubic c))
@@ -51,7 +51,7 @@ abbrev outer : (c : Start) → Num 581042176 (unit *ℤ (f c).C +ℤ ((unit *ℤ
 outer c = plus (local w64 tt (linear c)) (local w64 tt (shift (n c) (local w64 tt (inner c))))
 
 abbrev d : (c : Start) → Num 1073741824 (unit *ℤ (f c).D)
-d c = times (literal 65536) (known w64 tt (small (f c).D c.requires.1.D))
+d c = times (literal 65536) (known w64 tt (small (f c).D c.requires.D))
 
 -- ---- what the code asks
 

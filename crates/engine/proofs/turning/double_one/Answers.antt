@@ -21,8 +21,8 @@ a w = times (literal 2) (old w).a
 abbrev b : (w : After-from-old) → Num 4294967296 ((r w).b +ℤ (r w).a)
 b w = plus (old w).b (old w).a
 
-abbrev c : (w : After-from-old) → Num 4294967296 ((r w).c +ℤ ((r w).b >> (w.args.n + 1)))
-c w = plus (old w).c (local w64 tt (shift (w.args.n + 1) (old w).b))
+abbrev c : (w : After-from-old) → Num 4294967296 ((r w).c +ℤ ((r w).b >> (w.args.at.level + 1)))
+c w = plus (old w).c (local w64 tt (shift (w.args.at.level + 1) (old w).b))
 
 pub returns : goal.returns
 unfolding turn

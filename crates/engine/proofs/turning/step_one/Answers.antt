@@ -13,7 +13,7 @@ abbrev r : After-from-old → Registers
 r w = w.args.r
 
 abbrev n : After-from-old → ℕ
-n w = w.args.n
+n w = w.args.at.level
 
 abbrev old : (w : After-from-old) → Widened w.from-old.result (r w)
 old w = widened _ (r w) (told w.well_formed.0.1.1) w.from-old.ensures
