@@ -36,7 +36,7 @@ use Rattle.drawer.specs.Tally.{first_of, Placed, Small, start, begun, added, add
 use Rattle.path.proofs.Points.{position_most}
 use Rattle.path.proofs.Segments.{Of, Sound, sound, fits, of_lies, of_next}
 use Rattle.path.proofs.Turns.{by_test, next_falls, turns_end, turns_more}
-use Rattle.drawer.proofs.Starts.{is_given, first_is}
+use Rattle.drawer.proofs.Starts.{is_given, some_segment}
 use Rattle.drawer.proofs.Due.{Due, due_here, due_then, due_by, due_shown, Few, few_small, few_most, few_more}
 
 -- ---- what choosing answered
@@ -180,7 +180,7 @@ pub start_placed : (points : List ℤ) (shape : Shape) (limits : Limits) → pat
     → Placed (first_of (path points shape limits) 0) 0
 start_placed points shape limits e =
     let p = path points shape limits in
-    placed p 0 _ (sound p e 0 (first_is points shape limits e)).first (omega arith)
+    placed p 0 _ (sound p e 0 (some_segment points shape limits e)).first (omega arith)
 
 pub room_left : (p : Path) (k : ℕ) (d : Drawing) {t : Tally} → Of p k d → k < 64 → Few t (2 ^ p.finest * k + d.q + 1) → Small t
 room_left p k d on h f = few_small f (omega (arith, position_most p.finest k d.q on.fine.most h (on.on in_x).within))

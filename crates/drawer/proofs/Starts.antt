@@ -37,7 +37,7 @@ module _ (D : Degree) (F : ℕ) (points : List ℤ) (level k : ℕ) where
   abbrev p : Coordinate → Control D
   p = controls D points k
 
-  pub starts_first : (x y width : Control D) → x ≡ p in_x → y ≡ p in_y → width ≡ p in_width → start_refusal D F p level ≡ 0
+  starts_first : (x y width : Control D) → x ≡ p in_x → y ≡ p in_y → width ≡ p in_width → start_refusal D F p level ≡ 0
       → started D F (pick x y width) level ≡ record { refusal = 0; drawing = first D F points level k }
   unfolding first
   starts_first x y width ex ey ew e =
@@ -51,8 +51,8 @@ module _ (points : List ℤ) (shape : Shape) (limits : Limits) (e : path_refusal
   abbrev whole : Path
   whole = path points shape limits
 
-  pub first_is : 0 < shape.segments
-  first_is = (accepted_lawful whole e).some
+  pub some_segment : 0 < shape.segments
+  some_segment = (accepted_lawful whole e).some
 
   pub segments_few : shape.segments ≤ most_segments
   segments_few = (accepted_lawful whole e).most

@@ -129,7 +129,7 @@ impl<'a> Accepted<'a> {
     }
 
     // The start, with its entry.
-    #[tactic(auto, using(crate::proofs::Starts::first_is, crate::proofs::Loops::start_placed), unfolding(crate::specs::Tally::begun, path::specs::Path::first))]
+    #[tactic(auto, using(crate::proofs::Starts::some_segment, crate::proofs::Loops::start_placed), unfolding(crate::specs::Tally::begun, path::specs::Path::first))]
     fn begin(self, list: &mut [i32]) -> Tally
         ensures value { result ≡ begun (start (held self.entry)) }
         ensures list_after { list.new ≡ sets list.old 0 (numbers (start (held self.entry))) }

@@ -8,11 +8,11 @@ use Rattle.rules.specs.Rules.{most_segments}
 use Rattle.coordinate.specs.Registers.{halve, double, step}
 use Rattle.engine.specs.declared.Operation.{Operation}
 use Rattle.engine.specs.Choice.{said}
+use Rattle.path.specs.Answer.{totals}
 use Rattle.path.proofs.Accepted.{accepted_lawful}
 use Rattle.path.proofs.Segments.{Sound, sound}
-use Rattle.drawer.specs.Accepted.{held}
 use Rattle.drawer.specs.declared.Tally.{Tally}
-use Rattle.path.specs.Answer.{totals}
+use Rattle.drawer.specs.Accepted.{held}
 use Rattle.drawer.proofs.Starts.{given}
 use Rattle.drawer.proofs.Answers.{tally_answers}
 use Rattle.drawer.proofs.Loops.{Took, took, refused_ends, turn_kept, inner_given, inner_falls, inner_quiet, inner_step, placed, room_left, outer_starts, inner_starts, outer_goes, all_shown}
