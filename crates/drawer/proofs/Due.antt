@@ -15,10 +15,10 @@ use Rattle.drawer.specs.Tally.{added, Small, added_all}
 
 pub record Due (l : List ℤ) (t : Tally) (es : List Entry) (l₀ : List ℤ) (t₀ : Tally) (es₀ : List Entry) : Type 0 where
   pub tally : added_all t es ≡ added_all t₀ es₀
-  pub list : Ahead l (entry_size * t.points) (flat es) l₀ (entry_size * t₀.points) (flat es₀)
+  pub list : Ahead l (entry_size * t.totals.points) (flat es) l₀ (entry_size * t₀.totals.points) (flat es₀)
 
 pub due_here : (l : List ℤ) (t : Tally) (es : List Entry) → Due l t es l t es
-due_here l t es = record { tally = refl; list = here l (entry_size * t.points) (flat es) }
+due_here l t es = record { tally = refl; list = here l (entry_size * t.totals.points) (flat es) }
 
 pub due_then : {l l₁ l₀ : List ℤ} {t t₁ t₀ : Tally} {es es₁ es₀ : List Entry}
     → Due l t es l₁ t₁ es₁ → Due l₁ t₁ es₁ l₀ t₀ es₀ → Due l t es l₀ t₀ es₀
@@ -30,11 +30,11 @@ due_by {l} {l₀} {t} {t₀} {es₀ = es₀} e a = subst (λ (x : List Entry). D
 
 -- an entry is shown
 pub due_shown : {l l₀ : List ℤ} {t t₀ : Tally} {e : Entry} {es es₀ : List Entry} → Due l t (e ∷ es) l₀ t₀ es₀
-    → Due (sets l (entry_size * t.points) (numbers e)) (added t e) es l₀ t₀ es₀
+    → Due (sets l (entry_size * t.totals.points) (numbers e)) (added t e) es l₀ t₀ es₀
 unfolding added_all added flat
 due_shown {l} {t = t} {e = e} {es = es} a =
-    let at = entry_size * t.points in
-    let one = subst (λ (n : ℕ). Ahead (sets l at (numbers e)) n (flat es) l at (flat (e ∷ es))) (one_more t.points) (stored l at (numbers e) (flat es)) in
+    let at = entry_size * t.totals.points in
+    let one = subst (λ (n : ℕ). Ahead (sets l at (numbers e)) n (flat es) l at (flat (e ∷ es))) (one_more t.totals.points) (stored l at (numbers e) (flat es)) in
     record { tally = a.tally; list = then one a.list }
   where
     one_more : (n : ℕ) → entry_size * n + entry_size ≡ entry_size * (n + 1)
@@ -42,8 +42,8 @@ due_shown {l} {t = t} {e = e} {es = es} a =
 
 -- a tally of at most n points
 pub record Few (t : Tally) (n : ℕ) : Type 0 where
-  pub points : t.points ≤ n
-  pub length : t.length ≤ 1414 * t.points
+  pub points : t.totals.points ≤ n
+  pub length : t.totals.length ≤ 1414 * t.totals.points
 
 pub few_small : {t : Tally} {n : ℕ} → Few t n → n ≤ 1000000 → Small t
 few_small f h = record { few = le_trans f.points h; short = f.length }

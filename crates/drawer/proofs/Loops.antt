@@ -1,9 +1,9 @@
--- The drawer's loops, over plain values: the start of a segment, one turn of the inner loop, and what each loop keeps.
+-- The drawer's loops, over plain values: one turn of the inner loop, and what each loop keeps.
 use mathlib.Core.Path.{◌≡◌, refl, sym, ap, ◌∙◌, subst}
 use mathlib.Core.List.{List, [], ◌∷◌, ◌++◌}
 use mathlib.Core.Option.{Option, none, some, some-ne-none}
 use Prim.Native.Nat.{ℕ, zero, suc, ◌+◌, ◌-◌, ◌*◌, ◌^◌, ◌≤◌, ◌<◌, zero-le}
-use native.Mathlib.Nat.{le_refl, sub-zero, mul-le-mul_left}
+use native.Mathlib.Nat.{le_refl, sub-zero}
 use native.Mathlib.Omega.{arith}
 use lib.Dec.{ltb}
 use lib.IntN.{ℤ}
@@ -28,29 +28,16 @@ use Rattle.entries.specs.declared.Entry.{Entry}
 use Rattle.entries.specs.Entries.{entry_size, numbers, flat}
 use Rattle.drawer.specs.declared.Tally.{Tally}
 use Rattle.rules.specs.declared.Limits.{Limits}
-use Rattle.rules.specs.Rules.{degree}
 use Rattle.path.specs.declared.Shape.{Shape}
-use Rattle.path.specs.Path.{Path, path, path_refusal, first}
+use Rattle.path.specs.Path.{Path, path, path_refusal}
 use Rattle.path.specs.Segment.{next, turns}
 use Rattle.path.specs.Entries.{entry, shown, shown_by, rest, following, entries}
-use Rattle.drawer.specs.Tally.{Ready, Placed, Small, begun, added, added_all, tally}
+use Rattle.drawer.specs.Tally.{first_of, Placed, Small, start, begun, added, added_all, tally}
 use Rattle.path.proofs.Points.{position_most}
-use Rattle.path.proofs.Accepted.{accepted_lawful, point_inside, segment_accepted}
-use Rattle.path.proofs.Segments.{Of, Sound, fits, of_lies, of_next}
+use Rattle.path.proofs.Segments.{Of, Sound, sound, fits, of_lies, of_next}
 use Rattle.path.proofs.Turns.{by_test, next_falls, turns_end, turns_more}
-use Rattle.drawer.proofs.Starts.{is_given}
+use Rattle.drawer.proofs.Starts.{is_given, some_segment}
 use Rattle.drawer.proofs.Due.{Due, due_here, due_then, due_by, due_shown, Few, few_small, few_most, few_more}
-
--- ---- the start of each segment
-
-pub segment_ready : (points : List ℤ) (shape : Shape) (limits : Limits) → path_refusal (path points shape limits) ≡ 0 → (k : ℕ) → k < shape.segments
-    → Ready shape.degree shape.finest points shape.level k
-segment_ready points shape limits e k h =
-    let p = path points shape limits in
-    let l = accepted_lawful p e in
-    let D = degree shape.degree in
-    let last : D * k + D ≤ D * shape.segments = omega (arith, mul-le-mul_left D h) in
-    record { few = omega arith; inside = omega (arith, point_inside l 2 (D * k + D) (omega arith) last); accepted = segment_accepted p e k h }
 
 -- ---- what choosing answered
 
@@ -166,7 +153,7 @@ module _ {p : Path} {k : ℕ} {after : List Entry} {l l₀ : List ℤ} {t t₀ :
       }
 
   pub inner_step : Took p.upper p.lower step d → (m : Moved) → m ≡ called step d
-      → let e = entry m.drawing.finest k m.drawing in Inner p k after (sets l (entry_size * t.points) (numbers e)) (added t e) m.drawing l₀ t₀ d₀
+      → let e = entry m.drawing.finest k m.drawing in Inner p k after (sets l (entry_size * t.totals.points) (numbers e)) (added t e) m.drawing l₀ t₀ d₀
   inner_step w m c =
       let e = entry m.drawing.finest k m.drawing in
       let one : rest p k d ≡ e ∷ rest p k m.drawing =
@@ -188,6 +175,13 @@ placed p k d on h =
       within = subst (λ (G : ℕ). d.q ≤ 2 ^ G) (sym on.finest) (on.on in_x).within;
     }
 
+-- and so has the drawing that a path starts from
+pub start_placed : (points : List ℤ) (shape : Shape) (limits : Limits) → path_refusal (path points shape limits) ≡ 0
+    → Placed (first_of (path points shape limits) 0) 0
+start_placed points shape limits e =
+    let p = path points shape limits in
+    placed p 0 _ (sound p e 0 (some_segment points shape limits e)).first (omega arith)
+
 pub room_left : (p : Path) (k : ℕ) (d : Drawing) {t : Tally} → Of p k d → k < 64 → Few t (2 ^ p.finest * k + d.q + 1) → Small t
 room_left p k d on h f = few_small f (omega (arith, position_most p.finest k d.q on.fine.most h (on.on in_x).within))
 
@@ -203,7 +197,7 @@ rest_end p k d kept h =
 abbrev pub onward : Path → ℕ → List Entry
 onward p k = following p k (p.segments - k)
 
-onward_more : (p : Path) (k : ℕ) → k < p.segments → onward p k ≡ rest p k (first p.degree p.finest p.points p.level k) ++ onward p (k + 1)
+onward_more : (p : Path) (k : ℕ) → k < p.segments → onward p k ≡ rest p k (first_of p k) ++ onward p (k + 1)
 unfolding following
 onward_more p k h = let e : p.segments - k ≡ suc (p.segments - (k + 1)) = omega arith in rw e
 
@@ -222,7 +216,7 @@ outer_starts p l e t b =
     }
 
 pub inner_starts : {p : Path} {l l₀ : List ℤ} {t t₀ : Tally} {k k₀ : ℕ} → Outer p l t k l₀ t₀ k₀ → Sound p k
-    → (d : Drawing) → d ≡ first p.degree p.finest p.points p.level k → Inner p k (onward p (k + 1)) l t d l t d
+    → (d : Drawing) → d ≡ first_of p k → Inner p k (onward p (k + 1)) l t d l t d
 inner_starts {p} {l} {t = t} {k = k} o sound d e =
     record {
       kept = subst (Of p k) (sym e) sound.first;
@@ -233,7 +227,7 @@ inner_starts {p} {l} {t = t} {k = k} o sound d e =
 -- a segment has ended
 pub outer_goes : {p : Path} {l l₁ l₀ : List ℤ} {t t₁ t₀ : Tally} {k k₀ : ℕ} {d d₁ : Drawing}
     → Outer p l₁ t₁ k l₀ t₀ k₀ → k < p.segments
-    → d₁ ≡ first p.degree p.finest p.points p.level k → Inner p k (onward p (k + 1)) l t d l₁ t₁ d₁ → 2 ^ p.finest ≤ d.q → Outer p l t (k + 1) l₀ t₀ k₀
+    → d₁ ≡ first_of p k → Inner p k (onward p (k + 1)) l t d l₁ t₁ d₁ → 2 ^ p.finest ≤ d.q → Outer p l t (k + 1) l₀ t₀ k₀
 outer_goes {p} {k = k} {d = d} o h e i end =
     record {
       most = omega arith;
@@ -245,8 +239,7 @@ outer_goes {p} {k = k} {d = d} o h e i end =
 
 -- after the last segment nothing is due: the tally and the list are the whole path's
 pub all_shown : (p : Path) (l₀ : List ℤ) {l l₁ : List ℤ} {t t₁ : Tally} {k : ℕ} → Outer p l t k l₁ t₁ 0 → p.segments ≤ k
-    → let e = entry p.finest 0 (first p.degree p.finest p.points p.level 0) in
-    t₁ ≡ begun e → l₁ ≡ sets l₀ 0 (numbers e) → (t ≡ tally p) × (l ≡ sets l₀ 0 (flat (entries p)))
+    → t₁ ≡ begun (start p) → l₁ ≡ sets l₀ 0 (numbers (start p)) → (t ≡ tally p) × (l ≡ sets l₀ 0 (flat (entries p)))
 unfolding following tally entries added_all begun flat
 all_shown p l₀ {l} {l₁} {t} {t₁} {k} o h b s =
     let none : p.segments - k ≡ 0 = omega arith in

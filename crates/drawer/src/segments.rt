@@ -1,14 +1,15 @@
 // A segment of a path: its control points, the drawing that it starts from, and a drawing's entry.
 ghost use Rattle.std.specs.Prelude.{◌≡◌, ◌+◌, ◌*◌, ◌≤◌, ◌<◌, length};
 ghost use Rattle.rules.specs.Rules.{degree, coordinates, most_segments};
-ghost use Rattle.path.specs.Path.{control, first};
+ghost use Rattle.path.specs.Path.{control};
 ghost use Rattle.path.specs.Entries.{entry};
-ghost use Rattle.drawer.specs.Tally.{Ready, Placed};
+ghost use Rattle.drawer.specs.Accepted.{held};
+ghost use Rattle.drawer.specs.Tally.{Placed, first_of};
 
+use crate::Accepted;
 use coordinate::{Cubic, Quadratic};
 use engine::{Curve, Drawing};
 use entries::Entry;
-use path::Shape;
 use rules::{COORDINATES, Degree};
 
 // The entry of a drawing of segment k.
@@ -26,25 +27,28 @@ pub(crate) fn entry_of(d: Drawing, k: u32) -> Entry
     }
 }
 
-// The drawing that segment k starts from.
-pub(crate) fn first_of(points: &[i32], shape: Shape, k: u32) -> Drawing
-    requires { Ready shape.degree shape.finest points.now shape.level k }
-    ensures { result ≡ first shape.degree shape.finest points.now shape.level k }
-{
-    match shape.degree {
-        Degree::Quadratic => start_of::<Quadratic>(points, shape.finest, shape.level, k),
-        Degree::Cubic => start_of::<Cubic>(points, shape.finest, shape.level, k),
+impl<'a> Accepted<'a> {
+    // The drawing that segment k starts from.
+    pub(crate) fn first(self, k: u32) -> Drawing
+        requires { k < self.shape.segments }
+        ensures { result ≡ first_of (held self.entry) k }
+    {
+        match self.shape.degree {
+            Degree::Quadratic => self.start_of::<Quadratic>(k),
+            Degree::Cubic => self.start_of::<Cubic>(k),
+        }
     }
-}
 
-fn start_of<C: Read>(points: &[i32], finest: u32, level: u32, k: u32) -> Drawing
-    requires { Ready C.degree finest points.now level k }
-    ensures { result ≡ first C.degree finest points.now level k }
-{
-    let x = C::read(points, 0, k);
-    let y = C::read(points, 1, k);
-    let width = C::read(points, 2, k);
-    Drawing::start(x, y, width, finest, level).unwrap()
+    #[tactic(auto, using(crate::proofs::Starts::segments_few, crate::proofs::Starts::segment_inside))]
+    fn start_of<C: Read>(self, k: u32) -> Drawing
+        requires { (C.degree ≡ self.shape.degree) × (k < self.shape.segments) }
+        ensures { result ≡ first_of (held self.entry) k }
+    {
+        let x = C::read(self.points, 0, k);
+        let y = C::read(self.points, 1, k);
+        let width = C::read(self.points, 2, k);
+        Drawing::start(x, y, width, self.shape.finest, self.shape.level).unwrap()
+    }
 }
 
 trait Read: Curve {
