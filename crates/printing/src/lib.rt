@@ -16,8 +16,8 @@ ghost use Rattle.listing_text.specs.Pieces.{segment_numbers, text_size};
 
 use lines::put_line;
 use listing_text::{Output, Place, SEGMENT_NUMBERS};
-use pieces::{number_at, piece_at};
-use sheet::{LIST_HEAD, MOST_BYTES, MOST_NUMBERS};
+use pieces::piece_at;
+use sheet::{LIST_HEAD, MOST_BYTES, MOST_NUMBERS, number_at};
 use text::Text;
 
 const STDIN_FILENO: i32 = 0;

@@ -13,7 +13,7 @@ use crate::lines::{path_line, put_entries};
 use listing_text::Place;
 use path::{Shape, Totals};
 use rules::{COORDINATES, Limits, Marked, Refusal, SHEET_FINEST};
-use sheet::PATH_HEAD;
+use sheet::{PATH_HEAD, number_at};
 use text::Text;
 
 // Of a refused path nothing is counted.
@@ -168,11 +168,4 @@ fn limits_of(numbers: &[i32]) -> Limits
         upper: number_at(numbers, 1),
         lower: number_at(numbers, 2),
     }
-}
-
-// A count, a limit, segments or a mark: number i of a list, 0 past its end.
-pub(crate) fn number_at(numbers: &[i32], i: usize) -> u32
-    ensures { result ≡ number_at numbers.now i }
-{
-    numbers.get(i).map_or(0, |&z| rules::natural(z))
 }

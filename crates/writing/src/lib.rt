@@ -12,7 +12,9 @@ ghost use Rattle.sheet.specs.Writing.{path_refusal, paths_refusal, Parted, list_
 ghost use Rattle.sheet.specs.Answer.{answered, write_answer, bytes_written};
 
 use rules::{Limits, Marked, Refusal, SHEET_FINEST};
-use sheet::{LIST_HEAD, MOST_BYTES, MOST_PATHS, PATH_HEAD, RECORD_HEAD, VALUE_SIZE, head_size};
+use sheet::{
+    LIST_HEAD, MOST_BYTES, MOST_PATHS, PATH_HEAD, RECORD_HEAD, VALUE_SIZE, head_size, number_at,
+};
 
 // Writes the sheet of a number list into the front of `sheet` and answers how many bytes it has. Refuses 17, 12, 4; per path 17, 14, 3, 17,
 // 1, 2; 17, 11, 9, with `sheet` as it was.
@@ -160,14 +162,6 @@ fn put_values(values: &[i32], sheet: &mut [u8], p: usize)
     for (i, &z) in values.iter().enumerate() {
         put_i16(sheet, p + VALUE_SIZE * i, z);
     }
-}
-
-// A count, a limit, segments or a mark: number i of a list.
-fn number_at(numbers: &[i32], i: usize) -> u32
-    requires { i < length numbers.now }
-    ensures { result ≡ number_at numbers.now i }
-{
-    rules::natural(numbers[i])
 }
 
 // ---- numbers in bytes
