@@ -84,7 +84,7 @@ fn list_buffer() -> [i32; SEGMENT_NUMBERS]
 
 // Prints an accepted number list, a piece at a time.
 fn print_paths(numbers: &[i32], list: &mut [i32], text: &mut Text) -> Output
-    requires accepted { (list_refusal numbers.now ≡ 0) × (length numbers.now ≤ most_numbers) }
+    requires accepted { list_refusal numbers.now ≡ 0 }
     requires room { (length list.old ≡ segment_numbers) × (length text.old.bytes.now ≡ text_size) × (text.old.at ≡ 0) }
     ensures { (refusal_of result.verdict ≡ 0) × (result.count ≡ length (sheet_text (sheet_of numbers.now))) }
 {
