@@ -16,8 +16,8 @@ ghost use Rattle.listing_text.specs.Pieces.{segment_numbers, text_size};
 
 use lines::put_line;
 use listing_text::{Output, Place, SEGMENT_NUMBERS};
-use pieces::{number_at, piece_at};
-use sheet::{LIST_HEAD, MOST_BYTES, MOST_NUMBERS};
+use pieces::piece_at;
+use sheet::{LIST_HEAD, MOST_BYTES, MOST_NUMBERS, number_at};
 use text::Text;
 
 const STDIN_FILENO: i32 = 0;
@@ -84,7 +84,7 @@ fn list_buffer() -> [i32; SEGMENT_NUMBERS]
 
 // Prints an accepted number list, a piece at a time.
 fn print_paths(numbers: &[i32], list: &mut [i32], text: &mut Text) -> Output
-    requires accepted { (list_refusal numbers.now ≡ 0) × (length numbers.now ≤ most_numbers) }
+    requires accepted { list_refusal numbers.now ≡ 0 }
     requires room { (length list.old ≡ segment_numbers) × (length text.old.bytes.now ≡ text_size) × (text.old.at ≡ 0) }
     ensures { (refusal_of result.verdict ≡ 0) × (result.count ≡ length (sheet_text (sheet_of numbers.now))) }
 {

@@ -1,10 +1,9 @@
 // A piece of a listing: one segment of a path, after the path's line where it is the first; and the place after it.
-ghost use Rattle.std.specs.Prelude.{◌≡◌, ◌≤◌, ◌<◌, min, length};
+ghost use Rattle.std.specs.Prelude.{◌≡◌, ◌≤◌, ◌<◌, length};
 ghost use Rattle.path.specs.Path.{path};
 ghost use Rattle.path.specs.Joined.{alone};
 ghost use Rattle.path.specs.Answer.{answered, drawn, written};
-ghost use Rattle.sheet.specs.Sheet.{most_numbers};
-ghost use Rattle.sheet.specs.NumberList.{number_at, path_mark, path_at, path_end, sheet_of};
+ghost use Rattle.sheet.specs.NumberList.{path_at, sheet_of};
 ghost use Rattle.text.specs.Reached.{Gains};
 ghost use Rattle.listing_text.specs.Listing.{shape_of, limits_of};
 ghost use Rattle.listing_text.specs.Pieces.{path_in, segment_at, heading_at, piece_text, next_place};
@@ -12,8 +11,8 @@ ghost use Rattle.listing_text.specs.Pieces.{path_in, segment_at, heading_at, pie
 use crate::lines::{path_line, put_entries};
 use listing_text::Place;
 use path::{Shape, Totals};
-use rules::{COORDINATES, Limits, Marked, Refusal, SHEET_FINEST};
-use sheet::PATH_HEAD;
+use rules::{COORDINATES, Limits, Refusal, SHEET_FINEST};
+use sheet::{PathAt, number_at};
 use text::Text;
 
 // Of a refused path nothing is counted.
@@ -24,13 +23,13 @@ const NOTHING: Totals = Totals {
 
 // The piece at a place is put where the text stands; the answer is the place after it. The segment's entries are drawn into `list`.
 pub(crate) fn piece_at(numbers: &[i32], place: Place, list: &mut [i32], text: &mut Text) -> Place
-    requires inside { (place.path < 4294967295) × (place.at ≤ length numbers.now) × (length numbers.now ≤ most_numbers) }
+    requires inside { (place.path < 4294967295) × (place.at ≤ length numbers.now) }
     requires room { text.old.at ≤ length text.old.bytes.now }
     ensures next { result ≡ next_place numbers.now place }
     ensures text_after { Gains text.old (piece_text numbers.now place (length list.old)) text.new }
     ensures list_after { list.new ≡ written (segment_at numbers.now place) list.old }
 {
-    let path = Listed {
+    let path = PathAt {
         numbers: numbers,
         at: place.at,
     };
@@ -43,24 +42,24 @@ pub(crate) fn piece_at(numbers: &[i32], place: Place, list: &mut [i32], text: &m
 }
 
 // The path's line before its first segment, nothing before the others.
-fn put_heading(path: Listed, place: Place, text: &mut Text)
+fn put_heading(path: PathAt, place: Place, text: &mut Text)
     requires { (place.at ≡ path.at) × (text.old.at ≤ length text.old.bytes.now) }
     ensures { Gains text.old (heading_at path.entry.numbers.now place) text.new }
 {
     if place.segment == 0 {
-        let whole = drawer::measure(path.points(), path.shape(), limits_of(path.numbers));
+        let whole = drawer::measure(path.points(), shape_of(path), limits_of(path.numbers));
         path_line(place.path, whole.unwrap_or(NOTHING), text);
     }
 }
 
 // Draws segment k of a path of the list.
-fn draw_segment(path: Listed, k: u32, list: &mut [i32]) -> Result<Totals, Refusal>
+fn draw_segment(path: PathAt, k: u32, list: &mut [i32]) -> Result<Totals, Refusal>
     ensures answer { answered result ≡ drawn (alone (path_in path.entry.numbers.now path.entry.at) k) (length list.old) }
     ensures list_after { list.new ≡ written (alone (path_in path.entry.numbers.now path.entry.at) k) list.old }
 {
     draw_alone(
         path.points(),
-        path.shape(),
+        shape_of(path),
         limits_of(path.numbers),
         k,
         list,
@@ -75,7 +74,6 @@ fn draw_alone(
     k: u32,
     list: &mut [i32],
 ) -> Result<Totals, Refusal>
-    requires { length points.now ≤ most_numbers }
     ensures answer { answered result ≡ drawn (alone (path points.now shape limits) k) (length list.old) }
     ensures list_after { list.new ≡ written (alone (path points.now shape limits) k) list.old }
 {
@@ -90,7 +88,7 @@ fn draw_alone(
 }
 
 // The next segment of the path, or the next path.
-fn next_place(path: Listed, place: Place) -> Place
+fn next_place(path: PathAt, place: Place) -> Place
     requires { (place.path < 4294967295) × (place.at ≡ path.at) }
     ensures { result ≡ next_place path.entry.numbers.now place }
 {
@@ -102,62 +100,23 @@ fn next_place(path: Listed, place: Place) -> Place
     }
     Place {
         path: place.path + 1,
-        at: path.end(),
+        at: path.end().min(path.numbers.len()),
         segment: 0,
     }
 }
 
-// ---- the numbers of a path
+// ---- the path and the sheet
 
-// A path of a number list: its numbers start at number `at`.
-#[derive(Clone, Copy)]
-pub(crate) struct Listed<'a> {
-    pub(crate) numbers: &'a [i32],
-    pub(crate) at: usize,
-    ghost inside: { (at ≤ length numbers.now) × (length numbers.now ≤ most_numbers) },
-}
-
-impl<'a> Listed<'a> {
-    fn segments(self) -> u32
-        ensures { result ≡ number_at self.entry.numbers.now self.entry.at }
-    {
-        number_at(self.numbers, self.at)
-    }
-
-    // Its degree and start level.
-    fn mark(self) -> Marked
-        ensures { result ≡ path_mark self.entry.numbers.now self.entry.at }
-    {
-        Marked::from(number_at(self.numbers, self.at + 1))
-    }
-
-    // How it is drawn.
-    fn shape(self) -> Shape
-        ensures { result ≡ shape_of (path_at self.entry.numbers.now self.entry.at) }
-    {
-        let marked = self.mark();
-        let degree = marked.degree;
-        Shape {
-            degree: degree,
-            segments: self.segments(),
-            finest: SHEET_FINEST,
-            level: marked.level,
-        }
-    }
-
-    // Where its points end, as far as the list reaches.
-    fn end(self) -> usize
-        ensures { result ≡ min (path_end self.entry.numbers.now self.entry.at) (length self.entry.numbers.now) }
-    {
-        let size = rules::point_numbers(self.mark().degree, self.segments());
-        (self.at + PATH_HEAD + size).min(self.numbers.len())
-    }
-
-    fn points(self) -> &'a [i32]
-        ensures { result.now ≡ (path_at self.entry.numbers.now self.entry.at).points }
-    {
-        let from = (self.at + PATH_HEAD).min(self.numbers.len());
-        &self.numbers[from..self.end()]
+// How a path is drawn.
+fn shape_of(path: PathAt) -> Shape
+    ensures { result ≡ shape_of (path_at path.entry.numbers.now path.entry.at) }
+{
+    let marked = path.mark();
+    Shape {
+        degree: marked.degree,
+        segments: path.segments(),
+        finest: SHEET_FINEST,
+        level: marked.level,
     }
 }
 
@@ -168,11 +127,4 @@ fn limits_of(numbers: &[i32]) -> Limits
         upper: number_at(numbers, 1),
         lower: number_at(numbers, 2),
     }
-}
-
-// A count, a limit, segments or a mark: number i of a list, 0 past its end.
-pub(crate) fn number_at(numbers: &[i32], i: usize) -> u32
-    ensures { result ≡ number_at numbers.now i }
-{
-    numbers.get(i).map_or(0, |&z| rules::natural(z))
 }

@@ -1,12 +1,12 @@
 // Reading a sheet: its number list, from its bytes.
 #![tactic(auto)]
 
-ghost use Rattle.std.specs.Prelude.{◌≡◌, ◌+◌, ◌*◌, ◌≤◌, ◌<◌, length};
+ghost use Rattle.std.specs.Prelude.{◌≡◌, ◌+◌, ◌*◌, ◌^◌, ◌≤◌, ◌<◌, length};
 ghost use Rattle.std.proofs.lemmas.List.Edits.{sets};
 ghost use Rattle.rules.specs.Numbered.{refusal_of};
 ghost use Rattle.sheet.specs.Bytes.{value_size, u16_at, u32_at, i16_at, values_at};
-ghost use Rattle.sheet.specs.Sheet.{most_bytes, most_paths, head_size, record_head, sheet_numbers};
-ghost use Rattle.sheet.specs.Records.{record_mark, record_point_numbers, sheet_at};
+ghost use Rattle.sheet.specs.Sheet.{head_size, record_head, sheet_numbers};
+ghost use Rattle.sheet.specs.Records.{record_mark, record_point_numbers, record_end, sheet_at};
 ghost use Rattle.sheet.specs.Reading.{body_refusal, record_refusal, records_refusal, sheet_refusal};
 ghost use Rattle.sheet.specs.Answer.{answered, read_answer, numbers_read};
 
@@ -60,13 +60,17 @@ fn check_sheet(sheet: &[u8]) -> Result<(), Refusal>
 
 // The records stand one after another; `at` is where record k stands.
 fn check_records(sheet: &[u8], paths: u32) -> Result<(), Refusal>
-    requires { (paths ≤ most_paths) × (head_size paths ≤ length sheet.now) × (length sheet.now ≤ most_bytes) }
+    requires { head_size paths ≤ length sheet.now }
     ensures { refusal_of result ≡ records_refusal sheet.now paths 0 (head_size paths) }
 {
     let mut at = head_size(paths);
     for k in 0..paths {
         check_record(sheet, k, at)?;
-        at += RECORD_HEAD + VALUE_SIZE * record_point_numbers(sheet, at);
+        let record = RecordAt {
+            sheet: sheet,
+            at: at,
+        };
+        at = record.end();
     }
     if at != sheet.len() {
         return Err(Refusal::BytesLeft);
@@ -76,7 +80,7 @@ fn check_records(sheet: &[u8], paths: u32) -> Result<(), Refusal>
 
 #[tactic(auto, unfolding(sheet::specs::Reading::record_refusal, sheet::specs::Reading::is_offset))]
 fn check_record(sheet: &[u8], k: u32, at: usize) -> Result<(), Refusal>
-    requires { (k < most_paths) × (head_size (k + 1) ≤ length sheet.now) × (at ≤ length sheet.now) × (length sheet.now ≤ most_bytes) }
+    requires { (head_size (k + 1) ≤ length sheet.now) × (at ≤ length sheet.now) }
     ensures { refusal_of result ≡ record_refusal sheet.now k at }
 {
     let offset = u32_at(sheet, head_size(k));
@@ -88,37 +92,66 @@ fn check_record(sheet: &[u8], k: u32, at: usize) -> Result<(), Refusal>
 
 #[tactic(auto, unfolding(sheet::specs::Reading::body_refusal, sheet::specs::Records::record_at, sheet::specs::PathRules::path_rules))]
 fn check_body(sheet: &[u8], at: usize) -> Result<(), Refusal>
-    requires { (at ≤ length sheet.now) × (length sheet.now ≤ most_bytes) }
+    requires { at ≤ length sheet.now }
     ensures { refusal_of result ≡ body_refusal sheet.now at }
 {
     if sheet.len() < at + RECORD_HEAD {
         return Err(Refusal::CutRecord);
     }
-    let marked = record_mark(sheet, at);
-    rules::check_head(SHEET_FINEST, u16_at(sheet, at), marked.level)?;
-    let n = record_point_numbers(sheet, at);
-    if sheet.len() < at + RECORD_HEAD + VALUE_SIZE * n {
+    let record = RecordAt {
+        sheet: sheet,
+        at: at,
+    };
+    let marked = record.mark();
+    rules::check_head(SHEET_FINEST, record.segments(), marked.level)?;
+    if sheet.len() < record.end() {
         return Err(Refusal::CutRecord);
     }
+    let n = record.point_numbers();
     let mut points = [0i32; rules::MOST_POINT_NUMBERS];
     take_values(sheet, at + RECORD_HEAD, n, &mut points, 0);
     rules::check_points(rules::reach(marked.degree, SHEET_FINEST), &points[..n])
 }
 
-// The degree and the start level of the record at `at`.
-fn record_mark(sheet: &[u8], at: usize) -> Marked
-    requires { at + record_head ≤ length sheet.now }
-    ensures { result ≡ record_mark sheet.now at }
-{
-    Marked::from(u16_at(sheet, at + VALUE_SIZE))
+// ---- the head of a record
+
+// A record of a sheet whose segments and mark are there: its bytes start at byte `at`.
+#[derive(Clone, Copy)]
+struct RecordAt<'a> {
+    sheet: &'a [u8],
+    at: usize,
+    ghost begins: { at + record_head ≤ length sheet.now },
 }
 
-// How many numbers the points of the record at `at` are.
-fn record_point_numbers(sheet: &[u8], at: usize) -> usize
-    requires { at + record_head ≤ length sheet.now }
-    ensures { result ≡ record_point_numbers sheet.now at }
-{
-    rules::point_numbers(record_mark(sheet, at).degree, u16_at(sheet, at))
+impl RecordAt<'_> {
+    fn segments(self) -> u32
+        ensures value { result ≡ u16_at self.entry.sheet.now self.entry.at }
+        ensures upper_bound { result < 65536 }
+    {
+        u16_at(self.sheet, self.at)
+    }
+
+    // Its degree and start level.
+    fn mark(self) -> Marked
+        ensures { result ≡ record_mark self.entry.sheet.now self.entry.at }
+    {
+        Marked::from(u16_at(self.sheet, self.at + VALUE_SIZE))
+    }
+
+    // How many numbers its points are.
+    fn point_numbers(self) -> usize
+        ensures value { result ≡ record_point_numbers self.entry.sheet.now self.entry.at }
+        ensures upper_bound { result < 2 ^ 20 }
+    {
+        rules::point_numbers(self.mark().degree, self.segments())
+    }
+
+    // Where it ends, be the sheet so long or not.
+    fn end(self) -> usize
+        ensures { result ≡ record_end self.entry.sheet.now self.entry.at }
+    {
+        self.at + RECORD_HEAD + VALUE_SIZE * self.point_numbers()
+    }
 }
 
 // ---- the number list of an accepted sheet

@@ -6,6 +6,7 @@ pub mod Reading
 pub mod ReadsBack
 pub mod ReadsOnly
 pub mod NumberList
+pub mod Reach
 pub mod Writing
 pub mod WritesBack
 pub mod WritesOnly

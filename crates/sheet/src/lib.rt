@@ -1,8 +1,12 @@
-// What reading and writing a sheet have in common: the sizes of a sheet and of its number list.
+// What reading, writing and printing a sheet have in common: the sizes of a sheet and of its number list, and the numbers of a list.
 #![tactic(auto)]
+
+mod list;
 
 ghost use Rattle.std.specs.Prelude.{◌≡◌};
 ghost use Rattle.sheet.specs.Sheet.{head_size};
+
+pub use list::{PathAt, number_at};
 
 // A sheet has at most so many paths, and from LEAST_BYTES, the count and the limits, to MOST_BYTES bytes; MOST_NUMBERS numbers have room for
 // every sheet's number list.

@@ -1,17 +1,17 @@
 -- The bytes of an accepted number list: after the header they are its numbers in sixteen bits each, in the same order.
 use mathlib.Core.Path.{◌≡◌, ap}
 use mathlib.Core.List.{List, ◌++◌}
-use Prim.Native.Nat.{ℕ, ◌+◌, ◌-◌, ◌*◌, ◌≤◌, ◌<◌}
+use Prim.Native.Nat.{ℕ, ◌+◌, ◌-◌, ◌*◌, ◌≤◌}
 use native.Mathlib.Omega.{arith}
 use lib.IntN.{ℤ}
 use lib.ListN.{length, drop, length-drop}
 use Rattle.sheet.specs.Bytes.{value_size, le32, value_bytes}
-use Rattle.sheet.specs.Sheet.{most_bytes, list_head, path_head, head_size, offsets, sheet_bytes}
-use Rattle.sheet.specs.NumberList.{number_at, path_point_numbers, paths_at, sheet_of}
-use Rattle.sheet.specs.Writing.{paths_refusal, Parted, list_refusal}
+use Rattle.sheet.specs.Sheet.{most_bytes, list_head, head_size, offsets, sheet_bytes}
+use Rattle.sheet.specs.NumberList.{number_at, paths_at, sheet_of}
+use Rattle.sheet.specs.Writing.{Parted, list_refusal}
 use Rattle.sheet.proofs.Sheets.{records_flat, length_bytes}
 use Rattle.sheet.proofs.NumberList.{count_paths}
-use Rattle.sheet.proofs.Writing.{paths_kept, path_fits, listed, sheet_paths}
+use Rattle.sheet.proofs.Writing.{listed, sheet_paths}
 
 module _ (l : List ℤ) (parted : Parted l) where
   pub bytes_flat : sheet_bytes (sheet_of l)
@@ -34,7 +34,3 @@ room l sheet e h =
     let a = listed l e in
     let count = bytes_count l a.parted in
     (a.parted.0, omega (arith, h, count), omega (arith, a.fits, count))
-
--- of n paths without a refusal the first, at i, is all there
-pub inside : (l : List ℤ) (n i : ℕ) → 0 < n → paths_refusal l n i ≡ 0 → i + path_head + path_point_numbers l i ≤ length l
-inside l n i h e = path_fits l i (paths_kept l n i h e).0

@@ -1,18 +1,21 @@
 // Writing a sheet: its bytes, from its number list.
 #![tactic(auto)]
 
-ghost use Rattle.std.specs.Prelude.{◌≡◌, ◌+◌, ◌*◌, ◌≤◌, ◌<◌, length};
+ghost use Rattle.std.specs.Prelude.{◌≡◌, ◌+◌, ◌*◌, ◌≤◌, length};
 ghost use Rattle.std.proofs.lemmas.List.Edits.{sets};
 ghost use Rattle.rules.specs.Numbered.{refusal_of};
 ghost use Rattle.numbers.specs.Tables.{All};
 ghost use Rattle.sheet.specs.Bytes.{Short, value_size, le16, le32, bits16, value_bytes};
-ghost use Rattle.sheet.specs.Sheet.{least_bytes, most_bytes, list_head, path_head, head_size, offsets, sheet_bytes};
-ghost use Rattle.sheet.specs.NumberList.{number_at, path_mark, path_point_numbers, paths_at, sheet_of};
+ghost use Rattle.sheet.specs.Sheet.{least_bytes, most_bytes, list_head, head_size, offsets, sheet_bytes};
+ghost use Rattle.sheet.specs.NumberList.{paths_at, sheet_of};
 ghost use Rattle.sheet.specs.Writing.{path_refusal, paths_refusal, Parted, list_refusal};
 ghost use Rattle.sheet.specs.Answer.{answered, write_answer, bytes_written};
 
-use rules::{Limits, Marked, Refusal, SHEET_FINEST};
-use sheet::{LIST_HEAD, MOST_BYTES, MOST_PATHS, PATH_HEAD, RECORD_HEAD, VALUE_SIZE, head_size};
+use rules::{Limits, Refusal, SHEET_FINEST};
+use sheet::{
+    LIST_HEAD, MOST_BYTES, MOST_PATHS, PATH_HEAD, PathAt, RECORD_HEAD, VALUE_SIZE, head_size,
+    number_at,
+};
 
 // Writes the sheet of a number list into the front of `sheet` and answers how many bytes it has. Refuses 17, 12, 4; per path 17, 14, 3, 17,
 // 1, 2; 17, 11, 9, with `sheet` as it was.
@@ -58,15 +61,18 @@ fn check_list(numbers: &[i32]) -> Result<(), Refusal>
 }
 
 // The paths stand one after another; `at` is where the next stands.
-#[tactic(auto, using(sheet::proofs::Writing::path_fits))]
 fn check_paths(numbers: &[i32], paths: u32) -> Result<(), Refusal>
     requires { list_head ≤ length numbers.now }
     ensures { refusal_of result ≡ paths_refusal numbers.now paths list_head }
 {
     let mut at = LIST_HEAD;
     for _ in 0..paths {
-        check_path(numbers, at)?;
-        at += PATH_HEAD + path_point_numbers(numbers, at);
+        let path = PathAt {
+            numbers: numbers,
+            at: at,
+        };
+        check_path(path)?;
+        at = path.end();
     }
     if at != numbers.len() {
         return Err(Refusal::NumberList);
@@ -75,39 +81,18 @@ fn check_paths(numbers: &[i32], paths: u32) -> Result<(), Refusal>
 }
 
 #[tactic(auto, unfolding(sheet::specs::Writing::path_refusal, sheet::specs::NumberList::path_at, sheet::specs::PathRules::path_rules))]
-fn check_path(numbers: &[i32], at: usize) -> Result<(), Refusal>
-    requires { at ≤ length numbers.now }
-    ensures { refusal_of result ≡ path_refusal numbers.now at }
+fn check_path(path: PathAt) -> Result<(), Refusal>
+    ensures { refusal_of result ≡ path_refusal path.entry.numbers.now path.entry.at }
 {
-    if numbers.len() < at + PATH_HEAD {
+    if path.numbers.len() < path.at + PATH_HEAD {
         return Err(Refusal::NumberList);
     }
-    let marked = path_mark(numbers, at);
-    rules::check_head(SHEET_FINEST, number_at(numbers, at), marked.level)?;
-    let end = at + PATH_HEAD + path_point_numbers(numbers, at);
-    if numbers.len() < end {
+    let marked = path.mark();
+    rules::check_head(SHEET_FINEST, path.segments(), marked.level)?;
+    if path.numbers.len() < path.end() {
         return Err(Refusal::NumberList);
     }
-    rules::check_points(
-        rules::reach(marked.degree, SHEET_FINEST),
-        &numbers[at + PATH_HEAD..end],
-    )
-}
-
-// The degree and the start level of the path at `at`.
-fn path_mark(numbers: &[i32], at: usize) -> Marked
-    requires { at + path_head ≤ length numbers.now }
-    ensures { result ≡ path_mark numbers.now at }
-{
-    Marked::from(number_at(numbers, at + 1))
-}
-
-// How many numbers the points of the path at `at` are.
-fn path_point_numbers(numbers: &[i32], at: usize) -> usize
-    requires { at + path_head ≤ length numbers.now }
-    ensures { result ≡ path_point_numbers numbers.now at }
-{
-    rules::point_numbers(path_mark(numbers, at).degree, number_at(numbers, at))
+    rules::check_points(rules::reach(marked.degree, SHEET_FINEST), path.points())
 }
 
 // ---- the bytes of an accepted number list
@@ -135,7 +120,6 @@ fn fill_sheet(numbers: &[i32], sheet: &mut [u8])
 }
 
 // The offsets of `paths` records, the first after the header.
-#[tactic(auto, using(crate::proofs::Flat::inside))]
 fn put_offsets(numbers: &[i32], paths: u32, sheet: &mut [u8])
     requires accepted { paths_refusal numbers.now paths list_head ≡ 0 }
     requires room { (head_size paths + value_size * length numbers.now ≤ 2 * most_bytes) × (head_size paths ≤ length sheet.old) }
@@ -145,9 +129,12 @@ fn put_offsets(numbers: &[i32], paths: u32, sheet: &mut [u8])
     let mut at = LIST_HEAD;
     for k in 0..paths {
         put_u32(sheet, head_size(k), place as u32);
-        let n = path_point_numbers(numbers, at);
-        place += RECORD_HEAD + VALUE_SIZE * n;
-        at += PATH_HEAD + n;
+        let path = PathAt {
+            numbers: numbers,
+            at: at,
+        };
+        place += RECORD_HEAD + VALUE_SIZE * path.point_numbers();
+        at = path.end();
     }
 }
 
@@ -160,14 +147,6 @@ fn put_values(values: &[i32], sheet: &mut [u8], p: usize)
     for (i, &z) in values.iter().enumerate() {
         put_i16(sheet, p + VALUE_SIZE * i, z);
     }
-}
-
-// A count, a limit, segments or a mark: number i of a list.
-fn number_at(numbers: &[i32], i: usize) -> u32
-    requires { i < length numbers.now }
-    ensures { result ≡ number_at numbers.now i }
-{
-    rules::natural(numbers[i])
 }
 
 // ---- numbers in bytes

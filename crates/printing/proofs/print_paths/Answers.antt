@@ -31,7 +31,7 @@ next_inside l q h = by_test (ltb (q.segment + 1) (number_at l q.at)) (λ e. rw e
 pub loop-place-init : goal.loop-place-init
 loop-place-init c =
     let l = c.args.numbers.now in
-    let accepted = c.requires.accepted.0 in
+    let accepted = c.requires.accepted in
     let room = c.requires.room in
     let line = c.put_line.ensures in
     let from = line.put.0 ∙ ap (λ (at : ℕ). reached c.args.text.now.bytes.now at (named paths_word c.number_at-paths.result ++ end)) room.2 in (
@@ -53,7 +53,7 @@ counted c =
 
 pub overflow_add-count : goal.overflow_add-count
 overflow_add-count c =
-    record { fits = omega (arith, (counted (goal.at.overflow_add-count c).After-piece_at-place).1, list_small c.args.numbers.now c.requires.accepted.0) }
+    record { fits = omega (arith, (counted (goal.at.overflow_add-count c).After-piece_at-place).1, list_small c.args.numbers.now c.requires.accepted) }
 
 pub loop-place-smaller : goal.loop-place-smaller
 loop-place-smaller c =

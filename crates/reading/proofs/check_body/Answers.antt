@@ -21,54 +21,55 @@ use Rattle.sheet.specs.Reading.{body_refusal}
 use Rattle.sheet.proofs.Bytes.{values_length}
 use Rattle.sheet.proofs.PathRules.{refuses_by_points}
 use Rattle.reading.proofs.check_body.Goals as goal
-use Rattle.reading.proofs.check_body.Goals.{Else-sheet-at, After-record_point_numbers-n, After-take_values}
+use Rattle.reading.proofs.check_body.Goals.{Else-sheet-at, After-point_numbers-n, After-take_values}
 
 begins : (c : Else-sheet-at) → leb (c.args.at + record_head) (length c.args.sheet.now) ≡ true
 begins c = le-leb _ _ c.if-sheet-at.false
 
 -- ---- the segments and the mark: with them the points have few numbers
 
-head : (c : After-record_point_numbers-n)
+head : (c : After-point_numbers-n)
     → head_refusal sheet_finest (u16_at c.args.sheet.now c.args.at) (record_mark c.args.sheet.now c.args.at).level ≡ 0
-head c = rw (← c.u16_at.ensures.value, ← c.record_mark-marked.ensures) (sym c.in_ok-check_head.ensures)
+head c = rw (← c.segments.ensures.value, ← c.mark-marked.ensures) (sym c.in_ok-check_head.ensures)
 
-few : (c : After-record_point_numbers-n) → c.record_point_numbers-n.result ≤ 579
+few : (c : After-point_numbers-n) → c.point_numbers-n.result ≤ 579
 few c =
     let D = (record_mark c.args.sheet.now c.args.at).degree in
-    rw c.record_point_numbers-n.ensures (few_numbers D _ (head_kept sheet_finest _ _ (head c)).0)
+    rw c.point_numbers-n.ensures.value (few_numbers D _ (head_kept sheet_finest _ _ (head c)).0)
 
 -- ---- the points
 
 pub take_values-requires : goal.take_values-requires
 take_values-requires c =
-    (c.if-sheet-at-2.false, omega (arith, few (goal.at.take_values-requires c).After-record_point_numbers-n))
+    let n = c.point_numbers-n.ensures.value in
+    (omega (arith, c.if-sheet-end.false, c.end.ensures, n), omega (arith, few (goal.at.take_values-requires c).After-point_numbers-n))
 
 pub slice_bounds-points-end : goal.slice_bounds-points-end
-slice_bounds-points-end c = omega (arith, few (goal.at.slice_bounds-points-end c).After-record_point_numbers-n)
+slice_bounds-points-end c = omega (arith, few (goal.at.slice_bounds-points-end c).After-point_numbers-n)
 
 pub slice_bounds-check_points-end : goal.slice_bounds-check_points-end
 slice_bounds-check_points-end c =
-    sym (length-take-le _ _ (omega (arith, few (goal.at.slice_bounds-check_points-end c).After-record_point_numbers-n)))
+    sym (length-take-le _ _ (omega (arith, few (goal.at.slice_bounds-check_points-end c).After-point_numbers-n)))
 
 -- the front of a buffer is what was stored there
 front : (l k vs : List ℤ) (n : ℕ) → length vs ≡ n → n ≤ length l → k ≡ sets l 0 vs → take n k ≡ vs
 front l k vs n e h s = rw (s, sets_front l vs (rw e h)) (take_at vs _ n e)
 
 -- the points that were taken are the record's
-points : (c : After-take_values) → c.record_point_numbers-n.result ≤ 579
-    → take c.record_point_numbers-n.result c.take_values.new.list
+points : (c : After-take_values) → c.point_numbers-n.result ≤ 579
+    → take c.point_numbers-n.result c.take_values.new.list
     ≡ values_at c.args.sheet.now (c.args.at + record_head) (record_point_numbers c.args.sheet.now c.args.at)
 points c h =
-    let n = c.record_point_numbers-n.result in
-    rw (sym c.record_point_numbers-n.ensures) (front _ _ _ n (values_length _ _ n) h c.take_values.ensures)
+    let n = c.point_numbers-n.result in
+    rw (sym c.point_numbers-n.ensures.value) (front _ _ _ n (values_length _ _ n) h c.take_values.ensures)
 
 pub returns : goal.returns
 unfolding body_refusal record_at
 returns c =
     let at = goal.at.returns c in
-    let numbered = at.After-record_point_numbers-n in
-    let ends = le-leb _ _ (rw c.record_point_numbers-n.ensures at c.if-sheet-at-2.false) in
-    let mark = c.record_mark-marked.ensures in
+    let numbered = at.After-point_numbers-n in
+    let ends = le-leb _ _ (rw c.end.ensures at c.if-sheet-end.false) in
+    let mark = c.mark-marked.ensures in
     c.check_points.ensures
     ∙ ap₂ points_refusal (c.reach.ensures ∙ ap (λ (m : Marked). sheet_reach m.degree) mark) (points at.After-take_values (few numbered))
     ∙ sym (refuses_by_points 15 _ _ _ (begins at.Else-sheet-at) (head numbered) ends)

@@ -7,7 +7,7 @@ use lib.IntN.{ℤ}
 use lib.Seq.{sets}
 use Rattle.numbers.proofs.Buffers.{Ahead, then, stored, stored_all}
 use Rattle.sheet.specs.Bytes.{value_size, le32}
-use Rattle.sheet.specs.Sheet.{offset_size, head_size, path_head, record_head, offsets}
+use Rattle.sheet.specs.Sheet.{offset_size, head_size, record_head, offsets}
 use Rattle.sheet.specs.NumberList.{path_point_numbers, path_at, path_end, paths_at}
 use Rattle.sheet.specs.Writing.{path_refusal, paths_refusal}
 use Rattle.sheet.proofs.Sheets.{length_record}
@@ -25,9 +25,8 @@ kept c = paths_kept c.args.numbers.now (c.args.paths - c.loop-k.k) c.loop-k.at (
 pub overflow_cast-place : goal.overflow_cast-place
 overflow_cast-place c = omega (arith, path_fits c.args.numbers.now _ (kept (goal.at.overflow_cast-place c).In-loop-k).0)
 
-pub path_point_numbers-n-requires : goal.path_point_numbers-n-requires
-path_point_numbers-n-requires c =
-    omega (arith, path_fits c.args.numbers.now _ (kept (goal.at.path_point_numbers-n-requires c).In-loop-k).0)
+pub invariant_of-path : goal.invariant_of-path
+invariant_of-path c = omega (arith, path_fits c.args.numbers.now _ (kept (goal.at.invariant_of-path c).In-loop-k).0)
 
 -- the next path's offset, and those after it
 offsets_more : (l : List ℤ) (place n i : ℕ) → 0 < n → path_refusal l i ≡ 0
@@ -44,28 +43,25 @@ unfolding paths_at offsets
 offsets_end l place n i z = rw z
 
 -- the bytes stored are the next to come
-turn : {sheet₀ sheet after : List ℕ} {to₀ : ℕ} {all : List ℕ} (numbers : List ℤ) (place paths k at n : ℕ) → k < paths
-    → path_refusal numbers at ≡ 0 → n ≡ path_point_numbers numbers at → after ≡ sets sheet (head_size k) (le32 place)
+turn : {sheet₀ sheet after : List ℕ} {to₀ : ℕ} {all : List ℕ} (numbers : List ℤ) (place paths k at : ℕ) {n end : ℕ} → k < paths
+    → path_refusal numbers at ≡ 0 → n ≡ path_point_numbers numbers at → end ≡ path_end numbers at → after ≡ sets sheet (head_size k) (le32 place)
     → Ahead sheet (head_size k) (offsets place (paths_at numbers (paths - k) at)) sheet₀ to₀ all
-    → Ahead after (head_size (k + 1)) (offsets (place + (record_head + value_size * n)) (paths_at numbers (paths - (k + 1)) (at + (path_head + n)))) sheet₀ to₀ all
-turn {sheet = sheet} numbers place paths k at n some right points bytes ahead =
-    let next : at + (path_head + n) ≡ path_end numbers at = omega arith in
+    → Ahead after (head_size (k + 1)) (offsets (place + (record_head + value_size * n)) (paths_at numbers (paths - (k + 1)) end)) sheet₀ to₀ all
+turn {sheet = sheet} numbers place paths k at some right points end bytes ahead =
     let less : paths - (k + 1) ≡ paths - k - 1 = omega arith in
     let to : head_size (k + 1) ≡ head_size k + offset_size = omega arith in
     let more = offsets_more numbers place (paths - k) at (omega arith) right in
-    rw (bytes, next, points, less, to) (then (stored sheet (head_size k) (le32 place) _) (rw more at ahead))
+    rw (bytes, end, points, less, to) (then (stored sheet (head_size k) (le32 place) _) (rw more at ahead))
 
 pub loop-k-preserved : goal.loop-k-preserved
 loop-k-preserved c =
-    let at = goal.at.loop-k-preserved c in
-    let path = kept at.In-loop-k in
+    let path = kept (goal.at.loop-k-preserved c).In-loop-k in
+    let points = c.point_numbers.ensures.value in
+    let end = c.end-at.ensures in
     let less : c.args.paths - (c.loop-k.k + 1) ≡ c.args.paths - c.loop-k.k - 1 = omega arith in
-    let end : c.loop-k.at + (path_head + c.path_point_numbers-n.result) ≡ path_end c.args.numbers.now c.loop-k.at =
-    omega (arith, c.path_point_numbers-n.ensures) in
     let bytes = c.put_u32.ensures ∙ ap (λ (to : ℕ). sets c.loop-k.sheet to (le32 c.loop-k.place)) c.head_size.ensures in
-    let ahead =
-    turn c.args.numbers.now _ _ _ _ _ c.loop-k-test.true path.0 c.path_point_numbers-n.ensures bytes c.loop-k.invariant.2 in
-    (omega arith, rw (less, end) path.1, ahead)
+    let ahead = turn c.args.numbers.now _ _ _ _ c.loop-k-test.true path.0 points end bytes c.loop-k.invariant.2 in
+    (omega (arith, points, end), rw (less, end) path.1, ahead)
 
 pub returns : goal.returns
 returns c =

@@ -1,21 +1,15 @@
 -- What is drawn are the points, the shape and the limits that are read.
 use mathlib.Core.Path.{◌≡◌, ap}
-use native.Mathlib.Omega.{arith}
 use Rattle.path.specs.Path.{Path, path}
 use Rattle.path.specs.Joined.{alone}
 use Rattle.listing_text.specs.Pieces.{path_in}
 use Rattle.listing_text.proofs.Drawn.{drawn_same}
-use Rattle.printing.proofs.Reach.{points_few, path_read}
+use Rattle.printing.proofs.Reach.{path_read}
 use Rattle.printing.proofs.pieces.draw_segment.Goals as goal
 use Rattle.printing.proofs.pieces.draw_segment.Goals.{After-limits_of}
 
-read : (c : After-limits_of) → path c.points.result.now c.shape.result c.limits_of.result ≡ path_in c.args.path.numbers.now c.args.path.at
-read c = path_read c.args.path.numbers.now c.args.path.at c.points.ensures c.shape.ensures c.limits_of.ensures
-
-pub draw_alone-requires : goal.draw_alone-requires
-draw_alone-requires c =
-    let l = c.args.path in
-    rw c.points.ensures (omega (arith, points_few l.numbers.now l.at, l.inside))
+read : (c : After-limits_of) → path c.points.result.now c.shape_of.result c.limits_of.result ≡ path_in c.args.path.numbers.now c.args.path.at
+read c = path_read c.args.path.numbers.now c.args.path.at c.points.ensures c.shape_of.ensures c.limits_of.ensures
 
 pub returns-clause-answer : goal.returns-clause-answer
 returns-clause-answer c =

@@ -21,4 +21,4 @@ returns c =
     let a = c.args in
     let read = c.segments.ensures ∙ ap (number_at a.path.numbers.now) (sym c.requires.1) in
     let last = le-ltb (a.place.segment + 1) (number_at a.path.numbers.now a.place.at) (omega (arith, c.if-from.false, c.from.ensures, c.from-2.ensures, read)) in
-    rw (last, c.end.ensures, c.requires.1)
+    rw (last, c.min.ensures, c.end.ensures, c.requires.1)

@@ -22,7 +22,7 @@ pub returns-then-place-eq0 : goal.returns-then-place-eq0
 returns-then-place-eq0 c =
     let l = c.args.path in
     let i = c.args.place.path in
-    let p = path_read l.numbers.now l.at c.points.ensures c.shape.ensures c.limits_of.ensures ∙ ap (path_in l.numbers.now) (sym c.requires.0) in
+    let p = path_read l.numbers.now l.at c.points.ensures c.shape_of.ensures c.limits_of.ensures ∙ ap (path_in l.numbers.now) (sym c.requires.0) in
     let whole = line_told c.measure-whole.result i c.unwrap_or.ensures ∙ ap (path_line i) (c.measure-whole.ensures ∙ ap measured p) in
     gains_as (whole ∙ heading_first _ _ c.if-place-eq0.true) c.path_line.ensures
 

@@ -1,7 +1,7 @@
 -- A path's segments and its mark are the two numbers before its points.
 use Rattle.rules.specs.Rules.{sheet_finest}
 use Rattle.sheet.specs.NumberList.{path_at}
-use Rattle.printing.proofs.pieces.Listed.shape.Goals as goal
+use Rattle.printing.proofs.pieces.shape_of.Goals as goal
 
 pub returns : goal.returns
 unfolding path_at
