@@ -4,7 +4,6 @@ use mathlib.Core.Path.{◌≡◌, refl, sym, ap, ◌∙◌}
 use mathlib.Core.List.{List, [], ◌∷◌, ◌++◌}
 use Prim.Native.Nat.{ℕ, suc, ◌+◌, ◌≤◌}
 use native.Mathlib.Nat.{add-zero, zero-add, le_trans, le-suc}
-use native.Mathlib.Numerals.{add-one}
 use native.Mathlib.Omega.{arith}
 use lib.ListN.{length, drop, set, length-append}
 use lib.Seq.{sets, sets-eq, set_out}
@@ -39,10 +38,6 @@ module _ {A : Type 0} where
   -- the values u are stored
   pub stored : (l : List A) (n : ℕ) (u rest : List A) → Ahead (sets l n u) (n + length u) rest l n (u ++ rest)
   stored l n u rest = record { count = rw (length-append u rest) (omega arith); list = sym (sets_append l n u rest) }
-
-  -- one value is stored
-  pub stored_one : {l k : List A} {n m : ℕ} {x : A} {rest all : List A} → Ahead l n (x ∷ rest) k m all → Ahead (set l n x) (n + 1) rest k m all
-  stored_one {n = n} a = record { count = omega (arith, a.count); list = rw (add-one n) a.list }
 
   -- nothing is to come
   pub stored_all : {l k : List A} {n m : ℕ} {rest all : List A} → rest ≡ [] → Ahead l n rest k m all → l ≡ sets k m all

@@ -97,6 +97,7 @@ fn print_paths(numbers: &[i32], list: &mut [i32], text: &mut Text) -> Output
         at: LIST_HEAD,
         segment: 0,
     };
+    // No `for`: which place comes next, the piece says.
     while place.path < paths {
         text.at = 0;
         place = piece_at(numbers, place, list, text);

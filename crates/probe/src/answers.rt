@@ -17,6 +17,7 @@ const NUMBER_BEFORE: i32 = -7;
 
 const BYTE_BEFORE: u8 = 7;
 
+// A code is a number of the input, and is read here alone.
 pub(crate) fn answer(
     code: u32,
     words: &[i32],

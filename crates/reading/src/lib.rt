@@ -185,7 +185,7 @@ fn fill_numbers(sheet: &[u8], numbers: &mut [i32])
     );
 }
 
-// n values from place p of the sheet on go to the list, from place `at` on.
+// n values from place p of the sheet on go to the list, from place `at` on. By index: of what `iter_mut` lends a proof knows the length alone.
 fn take_values(sheet: &[u8], p: usize, n: usize, list: &mut [i32], at: usize)
     requires { (p + value_size * n ≤ length sheet.now) × (at + n ≤ length list.old) }
     ensures { list.new ≡ sets list.old at (values_at sheet.now p n) }

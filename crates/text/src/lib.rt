@@ -1,4 +1,5 @@
-// Text gathered in a lent buffer, piece after piece, each where the one before it ended.
+// Text gathered in a lent buffer, piece after piece, each where the one before it ended. Not by `Display`: `write!` stops with an error where
+// the buffer is full, and here a piece is put as far as it fits.
 #![tactic(auto)]
 
 ghost use Rattle.std.specs.Prelude.{◌≡◌, take};
