@@ -33,10 +33,10 @@ impl Place {
             level: d.level,
             q: d.q,
         };
-        if !((at.q <= at.end()) & (at.q % at.stride() == 0)) {
+        if (at.q % at.stride() != 0) | (at.q > at.end()) {
             return Err(Refusal::NoDrawing);
         }
-        if at.q >= at.end() {
+        if at.q == at.end() {
             return Err(Refusal::Ended);
         }
         Ok(at)
