@@ -32,7 +32,7 @@ use Rattle.path.specs.declared.Shape.{Shape}
 use Rattle.path.specs.Path.{Path, path, path_refusal}
 use Rattle.path.specs.Segment.{next, turns}
 use Rattle.path.specs.Entries.{entry, shown, shown_by, rest, following, entries}
-use Rattle.drawer.specs.Tally.{first_of, Placed, Small, start, begun, added, added_all, tally}
+use Rattle.drawer.specs.Tally.{first_at, Placed, Small, start, begun, added, added_all, tally}
 use Rattle.path.proofs.Points.{position_most}
 use Rattle.path.proofs.Segments.{Of, Sound, sound, fits, of_lies, of_next}
 use Rattle.path.proofs.Turns.{by_test, next_falls, turns_end, turns_more}
@@ -177,7 +177,7 @@ placed p k d on h =
 
 -- and so has the drawing that a path starts from
 pub start_placed : (points : List ℤ) (shape : Shape) (limits : Limits) → path_refusal (path points shape limits) ≡ 0
-    → Placed (first_of (path points shape limits) 0) 0
+    → Placed (first_at (path points shape limits) 0) 0
 start_placed points shape limits e =
     let p = path points shape limits in
     placed p 0 _ (sound p e 0 (some_segment points shape limits e)).first (omega arith)
@@ -197,7 +197,7 @@ rest_end p k d kept h =
 abbrev pub onward : Path → ℕ → List Entry
 onward p k = following p k (p.segments - k)
 
-onward_more : (p : Path) (k : ℕ) → k < p.segments → onward p k ≡ rest p k (first_of p k) ++ onward p (k + 1)
+onward_more : (p : Path) (k : ℕ) → k < p.segments → onward p k ≡ rest p k (first_at p k) ++ onward p (k + 1)
 unfolding following
 onward_more p k h = let e : p.segments - k ≡ suc (p.segments - (k + 1)) = omega arith in rw e
 
@@ -216,7 +216,7 @@ outer_starts p l e t b =
     }
 
 pub inner_starts : {p : Path} {l l₀ : List ℤ} {t t₀ : Tally} {k k₀ : ℕ} → Outer p l t k l₀ t₀ k₀ → Sound p k
-    → (d : Drawing) → d ≡ first_of p k → Inner p k (onward p (k + 1)) l t d l t d
+    → (d : Drawing) → d ≡ first_at p k → Inner p k (onward p (k + 1)) l t d l t d
 inner_starts {p} {l} {t = t} {k = k} o sound d e =
     record {
       kept = subst (Of p k) (sym e) sound.first;
@@ -227,7 +227,7 @@ inner_starts {p} {l} {t = t} {k = k} o sound d e =
 -- a segment has ended
 pub outer_goes : {p : Path} {l l₁ l₀ : List ℤ} {t t₁ t₀ : Tally} {k k₀ : ℕ} {d d₁ : Drawing}
     → Outer p l₁ t₁ k l₀ t₀ k₀ → k < p.segments
-    → d₁ ≡ first_of p k → Inner p k (onward p (k + 1)) l t d l₁ t₁ d₁ → 2 ^ p.finest ≤ d.q → Outer p l t (k + 1) l₀ t₀ k₀
+    → d₁ ≡ first_at p k → Inner p k (onward p (k + 1)) l t d l₁ t₁ d₁ → 2 ^ p.finest ≤ d.q → Outer p l t (k + 1) l₀ t₀ k₀
 outer_goes {p} {k = k} {d = d} o h e i end =
     record {
       most = omega arith;

@@ -23,7 +23,7 @@ use Rattle.engine.proofs.Accepted.{start_begins}
 use Rattle.path.specs.declared.Shape.{Shape}
 use Rattle.path.specs.Path.{Path, path, path_refusal, controls, first}
 use Rattle.path.proofs.Accepted.{accepted_lawful, point_inside, segment_accepted}
-use Rattle.drawer.specs.Tally.{first_of}
+use Rattle.drawer.specs.Tally.{first_at}
 
 pub is_given : (r : Result Drawing Refused) → (answered r).refusal ≡ 0 → IsOk r
 is_given (Ok d) e = refl
@@ -65,7 +65,7 @@ module _ (points : List ℤ) (shape : Shape) (limits : Limits) (e : path_refusal
 
   pub segment_starts : (D : Degree) → D ≡ shape.degree → (k : ℕ) → k < shape.segments
       → (x y width : Control D) → x ≡ controls D points k in_x → y ≡ controls D points k in_y → width ≡ controls D points k in_width
-      → started D shape.finest (pick x y width) shape.level ≡ record { refusal = 0; drawing = first_of whole k }
+      → started D shape.finest (pick x y width) shape.level ≡ record { refusal = 0; drawing = first_at whole k }
   segment_starts D d k h x y width ex ey ew =
       let kept = subst (λ (D : Degree). start_refusal D shape.finest (controls D points k) shape.level ≡ 0) (sym d) (segment_accepted whole e k h) in
       starts_first D shape.finest points shape.level k x y width ex ey ew kept

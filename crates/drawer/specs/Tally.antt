@@ -15,11 +15,11 @@ pub record Placed (d : Drawing) (k : ℕ) : Type 0 where
   pub within : d.q ≤ 2 ^ d.finest
 
 -- the drawing that segment k of a path starts from, and the path's first entry
-abbrev pub first_of : Path → ℕ → Drawing
-first_of p k = first p.degree p.finest p.points p.level k
+abbrev pub first_at : Path → ℕ → Drawing
+first_at p k = first p.degree p.finest p.points p.level k
 
 abbrev pub start : Path → Entry
-start p = entry p.finest 0 (first_of p 0)
+start p = entry p.finest 0 (first_at p 0)
 
 -- a tally of the start alone, and one with one more point
 unfoldable pub begun : Entry → Tally

@@ -4,7 +4,7 @@ ghost use Rattle.rules.specs.Rules.{degree, coordinates, most_segments};
 ghost use Rattle.path.specs.Path.{control};
 ghost use Rattle.path.specs.Entries.{entry};
 ghost use Rattle.drawer.specs.Accepted.{held};
-ghost use Rattle.drawer.specs.Tally.{Placed, first_of};
+ghost use Rattle.drawer.specs.Tally.{Placed, first_at};
 
 use crate::Accepted;
 use coordinate::{Cubic, Quadratic};
@@ -31,7 +31,7 @@ impl<'a> Accepted<'a> {
     // The drawing that segment k starts from.
     pub(crate) fn first(self, k: u32) -> Drawing
         requires { k < self.shape.segments }
-        ensures { result ≡ first_of (held self.entry) k }
+        ensures { result ≡ first_at (held self.entry) k }
     {
         match self.shape.degree {
             Degree::Quadratic => self.start_of::<Quadratic>(k),
@@ -42,7 +42,7 @@ impl<'a> Accepted<'a> {
     #[tactic(auto, using(crate::proofs::Starts::segments_few, crate::proofs::Starts::segment_inside))]
     fn start_of<C: Read>(self, k: u32) -> Drawing
         requires { (C.degree ≡ self.shape.degree) × (k < self.shape.segments) }
-        ensures { result ≡ first_of (held self.entry) k }
+        ensures { result ≡ first_at (held self.entry) k }
     {
         let x = C::read(self.points, 0, k);
         let y = C::read(self.points, 1, k);

@@ -33,16 +33,17 @@ impl Place {
             level: d.level,
             q: d.q,
         };
-        if !((at.q <= at.end()) & (at.q % at.stride() == 0)) {
+        if (at.q % at.stride() != 0) | (at.q > at.end()) {
             return Err(Refusal::NoDrawing);
         }
-        if at.q >= at.end() {
+        if at.q == at.end() {
             return Err(Refusal::Ended);
         }
         Ok(at)
     }
 
-    #[tactic(auto, using(rules::proofs::Refusals::first_on), unfolding(operations::specs::Refusals::call_refusal))]
+    // Refuses 10, 5, 6.
+    #[tactic(auto, unfolding(operations::specs::Refusals::call_refusal))]
     pub(crate) fn to_halve(d: Drawing) -> Result<Place, Refusal>
         ensures { Stands (call_refusal d.finest halve d.level d.q) d.finest d.level d.q result }
     {
@@ -53,7 +54,8 @@ impl Place {
         Ok(at)
     }
 
-    #[tactic(auto, using(rules::proofs::Refusals::first_on), unfolding(operations::specs::Refusals::call_refusal))]
+    // Refuses 10, 5, 7, 8.
+    #[tactic(auto, unfolding(operations::specs::Refusals::call_refusal))]
     pub(crate) fn to_double(d: Drawing) -> Result<Place, Refusal>
         ensures { Stands (call_refusal d.finest double d.level d.q) d.finest d.level d.q result }
     {
@@ -67,6 +69,7 @@ impl Place {
         Ok(at)
     }
 
+    // Refuses 4, 10, 5.
     #[tactic(auto, unfolding(operations::specs::Refusals::choice_refusal))]
     pub(crate) fn to_choose(d: Drawing, limits: Limits) -> Result<Place, Refusal>
         ensures { Stands (choice_refusal d.finest limits.upper limits.lower d.level d.q) d.finest d.level d.q result }

@@ -29,7 +29,8 @@ pub fn print(sheet: &[u8]) -> Output
     ensures verdict { refusal_of result.verdict ≡ sheet_refusal sheet.now }
     ensures count { result.count ≡ length (listing sheet.now) }
 {
-    let mut numbers = number_buffer();
+    // Room for every sheet's numbers, and below for every segment's list.
+    let mut numbers = [0i32; MOST_NUMBERS];
     let mut buffer = io::large_buffer();
     let mut text = Text {
         bytes: &mut buffer,
@@ -37,7 +38,7 @@ pub fn print(sheet: &[u8]) -> Output
     };
     match reading::read(sheet, &mut numbers) {
         Ok(count) => {
-            let mut list = list_buffer();
+            let mut list = [0i32; SEGMENT_NUMBERS];
             print_paths(&numbers[..count as usize], &mut list, &mut text)
         }
         Err(refusal) => {
@@ -66,20 +67,6 @@ pub fn sheet_buffer() -> [u8; MOST_BYTES + 1]
     ensures { 32769 ≡ length result }
 {
     [0; MOST_BYTES + 1]
-}
-
-// Room for every sheet's numbers.
-fn number_buffer() -> [i32; MOST_NUMBERS]
-    ensures { most_numbers ≡ length result }
-{
-    [0; MOST_NUMBERS]
-}
-
-// Room for every segment's list.
-fn list_buffer() -> [i32; SEGMENT_NUMBERS]
-    ensures { segment_numbers ≡ length result }
-{
-    [0; SEGMENT_NUMBERS]
 }
 
 // Prints an accepted number list, a piece at a time.

@@ -42,6 +42,7 @@ pub(crate) fn piece_at(numbers: &[i32], place: Place, list: &mut [i32], text: &m
 }
 
 // The path's line before its first segment, nothing before the others.
+#[tactic(auto, using(crate::proofs::Reach::path_read, crate::proofs::Counted::line_told, text::proofs::Pieces::gains_none))]
 fn put_heading(path: PathAt, place: Place, text: &mut Text)
     requires { (place.at ≡ path.at) × (text.old.at ≤ length text.old.bytes.now) }
     ensures { Gains text.old (heading_at path.entry.numbers.now place) text.new }
@@ -53,6 +54,7 @@ fn put_heading(path: PathAt, place: Place, text: &mut Text)
 }
 
 // Draws segment k of a path of the list.
+#[tactic(auto, using(crate::proofs::Reach::path_read))]
 fn draw_segment(path: PathAt, k: u32, list: &mut [i32]) -> Result<Totals, Refusal>
     ensures answer { answered result ≡ drawn (alone (path_in path.entry.numbers.now path.entry.at) k) (length list.old) }
     ensures list_after { list.new ≡ written (alone (path_in path.entry.numbers.now path.entry.at) k) list.old }
@@ -67,6 +69,7 @@ fn draw_segment(path: PathAt, k: u32, list: &mut [i32]) -> Result<Totals, Refusa
 }
 
 // Draws segment k of a path.
+#[tactic(auto, using(crate::proofs::Reach::segment_part))]
 fn draw_alone(
     points: &[i32],
     shape: Shape,
@@ -88,6 +91,7 @@ fn draw_alone(
 }
 
 // The next segment of the path, or the next path.
+#[tactic(auto, unfolding(listing_text::specs::Pieces::next_place))]
 fn next_place(path: PathAt, place: Place) -> Place
     requires { (place.path < 4294967295) × (place.at ≡ path.at) }
     ensures { result ≡ next_place path.entry.numbers.now place }
@@ -108,6 +112,7 @@ fn next_place(path: PathAt, place: Place) -> Place
 // ---- the path and the sheet
 
 // How a path is drawn.
+#[tactic(auto, unfolding(sheet::specs::NumberList::path_at))]
 fn shape_of(path: PathAt) -> Shape
     ensures { result ≡ shape_of (path_at path.entry.numbers.now path.entry.at) }
 {
@@ -120,6 +125,7 @@ fn shape_of(path: PathAt) -> Shape
     }
 }
 
+#[tactic(auto, unfolding(sheet::specs::NumberList::sheet_of))]
 fn limits_of(numbers: &[i32]) -> Limits
     ensures { result ≡ limits_of (sheet_of numbers.now) }
 {

@@ -53,9 +53,9 @@ pub(crate) fn end_line(text: &mut Text) {
 // ---- the start of a line
 
 pub(crate) fn put_drawn(text: &mut Text, drawn: Result<Totals, Refusal>) {
-    let totals = put_verdict(text, drawn);
-    put(text, totals.points);
-    put(text, totals.length);
+    let (points, length) = put_verdict(text, drawn.map(|t| (t.points, t.length)));
+    put(text, points);
+    put(text, length);
 }
 
 pub(crate) fn put_written(text: &mut Text, written: Result<u32, Refusal>) {
@@ -109,7 +109,6 @@ fn make_room(text: &mut Text) {
 }
 
 fn write_out(text: &mut Text) {
-    let end = text.at.min(text.bytes.len());
-    io::write_all(STDOUT_FILENO, &text.bytes[..end]);
+    io::write_all(STDOUT_FILENO, text.filled());
     text.at = 0;
 }

@@ -98,6 +98,7 @@ fn check_path(path: PathAt) -> Result<(), Refusal>
 // ---- the bytes of an accepted number list
 
 // Each number of the paths takes two bytes.
+#[tactic(auto, using(crate::proofs::Flat::bytes_count))]
 fn byte_count(numbers: &[i32]) -> usize
     requires { Parted numbers.now }
     ensures { result ≡ length (sheet_bytes (sheet_of numbers.now)) }
@@ -151,6 +152,7 @@ fn put_values(values: &[i32], sheet: &mut [u8], p: usize)
 
 // ---- numbers in bytes
 
+#[tactic(auto, using(crate::proofs::Bytes::copied_as, crate::proofs::Bytes::bytes_32))]
 fn put_u32(sheet: &mut [u8], at: usize, n: u32)
     requires { at + 4 ≤ length sheet.old }
     ensures { sheet.new ≡ sets sheet.old at (le32 n) }
@@ -158,6 +160,7 @@ fn put_u32(sheet: &mut [u8], at: usize, n: u32)
     sheet[at..at + 4].copy_from_slice(&n.to_le_bytes());
 }
 
+#[tactic(auto, using(crate::proofs::Bytes::copied_as, crate::proofs::Bytes::bits_16))]
 fn put_i16(sheet: &mut [u8], at: usize, z: i32)
     requires short { Short z }
     requires room { at + 2 ≤ length sheet.old }
