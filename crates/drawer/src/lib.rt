@@ -19,7 +19,8 @@ use path::{Shape, Totals};
 use rules::{Limits, Refusal};
 use segments::entry_of;
 
-// Draws a path into the front of `list`, four numbers a point. Refuses 14, 24, 1, 2, 3, 4, 9, with the list as it was.
+// Draws a path into the front of `list`, four numbers a point. Refuses 14, 24, 1, 2, 3, 4, 9, with the list as it was. README names the three
+// arguments of a path; from `Accepted` on they are one.
 pub fn draw(
     points: &[i32],
     shape: Shape,
@@ -46,7 +47,7 @@ pub fn measure(points: &[i32], shape: Shape, limits: Limits) -> Result<Totals, R
     Ok(path.draw_into(&mut []))
 }
 
-// The same under the standard limits. Refuses 14, 24, 1, 2, 3, 9.
+// The same under the standard limits, which README names beside it. Refuses 14, 24, 1, 2, 3, 9.
 pub fn draw_standard(points: &[i32], shape: Shape, list: &mut [i32]) -> Result<Totals, Refusal>
     ensures answer { answered result ≡ drawn (path points.now shape standard_limits) (length list.old) }
     ensures list_after { list.new ≡ written (path points.now shape standard_limits) list.old }
@@ -54,7 +55,7 @@ pub fn draw_standard(points: &[i32], shape: Shape, list: &mut [i32]) -> Result<T
     draw(points, shape, Limits::standard(), list)
 }
 
-// The same under the standard limits. Refuses 14, 24, 1, 2, 3.
+// The same under the standard limits, which README names beside it. Refuses 14, 24, 1, 2, 3.
 pub fn measure_standard(points: &[i32], shape: Shape) -> Result<Totals, Refusal>
     ensures { answered result ≡ measured (path points.now shape standard_limits) }
 {
@@ -112,7 +113,8 @@ impl<'a> Accepted<'a> {
             // A copy, which the operations can change in registers: what a call hands over stays in memory, and that is slower.
             let first = self.first(k);
             let mut d = first;
-            // The document's form: the inner loop is left by its label. A chosen operation is not refused; choosing is, at the segment's end alone.
+            // Document 01 fixes this form, nested loops, the inner one left by its label (docs/DECISIONS.md, 24). A chosen operation is not
+            // refused; choosing is, at the segment's end alone.
             'operations: loop {
                 match d.next(self.limits) {
                     Ok(Operation::Halve) => d = d.halve().unwrap(),

@@ -51,6 +51,7 @@ impl<'a> Accepted<'a> {
     }
 }
 
+// Not a method of `Curve`: that would have to say what is read past the list's end, where nothing is ever read.
 trait Read: Curve {
     // Coordinate c of segment k's points.
     fn read(points: &[i32], c: usize, k: u32) -> Self

@@ -79,7 +79,8 @@ impl Drawing {
         begin(x, y, width, finest, level)
     }
 
-    // One level finer. Refuses 10, 5, 6, 10, with the drawing as it was.
+    // One level finer. Refuses 10, 5, 6, 10, with the drawing as it was. (Each coordinate by its name, as the definition `turned` has them: a
+    // closure over the three would need a clause that says all three again.)
     pub fn halve(self) -> Result<Drawing, Refused>
         ensures { answered result ≡ called halve self }
     {
@@ -138,7 +139,7 @@ impl Drawing {
         Ok(Operation::Step)
     }
 
-    // The same under the standard limits. Refuses 10, 5.
+    // The same under the standard limits, which README names beside it. Refuses 10, 5.
     pub fn next_standard(self) -> Result<Operation, Refusal>
         ensures { said result ≡ choice standard_upper standard_lower self }
     {

@@ -126,6 +126,7 @@ fn no_curve() -> Coefficients
     }
 }
 
+// Number by number, so that the edit paired_refused_start_at_finest_11 can name one.
 fn nothing() -> Drawing
     ensures { result ≡ nothing_drawn }
 {

@@ -1,5 +1,5 @@
 // The operations on one coordinate, in 64 bits, since of registers that a caller made up the new ones may leave 32; landing; the point shown.
-ghost use Rattle.std.specs.Prelude.{◌≡◌, ◌≤◌};
+ghost use Rattle.std.specs.Prelude.{◌≡◌};
 ghost use Rattle.coordinate.specs.Registers.{halve, double, step, turn};
 ghost use Rattle.coordinate.specs.Shown.{pixel};
 ghost use Rattle.engine.specs.Drawing.{landed};
@@ -12,7 +12,7 @@ use coordinate::Registers;
 use rules::Refusal;
 use std::num::TryFromIntError;
 
-// The registers of one coordinate before it is known that they fit 32 bits.
+// The registers of one coordinate before it is known that they fit 32 bits. Not a generic `Registers`: the theorems of coordinate name that record.
 #[derive(Clone, Copy)]
 pub(crate) struct Wide {
     pub(crate) a: i64,
@@ -87,7 +87,8 @@ pub(crate) fn step_one(r: Registers, at: Place) -> Wide
     }
 }
 
-// The new drawing, of the old one's finest level, where its registers fit 32 bits; otherwise the old one, refused 10.
+// The new drawing, of the old one's finest level, where its registers fit 32 bits; otherwise the old one, refused 10. Tried as one match on the
+// three: a tenth slower.
 #[tactic(auto, unfolding(crate::specs::Drawing::landed, operations::specs::Refusals::registers_refusal, operations::specs::Coordinates::every))]
 pub(crate) fn land(
     old: Drawing,

@@ -40,7 +40,7 @@ fn store(list: &mut [i32], at: usize, v: i32)
     }
 }
 
-// Entry `i` of a list, where the list reaches that far.
+// Entry `i` of a list, where the list reaches that far. Place by place, so that edits can take one for another.
 #[tactic(auto, unfolding(crate::specs::Entries::entry_at))]
 pub fn entry_at(list: &[i32], i: usize) -> Option<Entry>
     ensures { found result ≡ entry_at list.now i }

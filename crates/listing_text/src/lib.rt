@@ -11,6 +11,7 @@ pub const SEGMENT_NUMBERS: usize = entries::ENTRY_SIZE * ((1 << rules::SHEET_FIN
 pub struct Output {
     pub verdict: Result<(), Refusal>,
     pub count: usize,
+    // no value stands or falls with it
     pub whole: bool,
 }
 

@@ -7,7 +7,6 @@ mod pieces;
 
 ghost use Rattle.std.specs.Prelude.{◌≡◌, false, ℕ, ◌≤◌, length, take};
 ghost use Rattle.rules.specs.Numbered.{refusal_of};
-ghost use Rattle.sheet.specs.Sheet.{most_numbers};
 ghost use Rattle.sheet.specs.NumberList.{sheet_of};
 ghost use Rattle.sheet.specs.Reading.{sheet_refusal};
 ghost use Rattle.sheet.specs.Writing.{list_refusal};

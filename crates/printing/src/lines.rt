@@ -33,7 +33,7 @@ pub(crate) fn path_line(path: u32, whole: Totals, text: &mut Text)
     text.put(b"\n");
 }
 
-// Entries `from` to `count` of a segment's list, at their place on the path as segment k.
+// Entries `from` to `count` of a segment's list, at their place on the path as segment k: `lines_in` names the list and these numbers.
 pub(crate) fn put_entries(list: &[i32], from: u32, count: u32, k: u32, text: &mut Text)
     requires { (entry_size * count ≤ length list.now) × (text.old.at ≤ length text.old.bytes.now) }
     ensures { Gains text.old (lines_in list.now from count k) text.new }
@@ -45,7 +45,7 @@ pub(crate) fn put_entries(list: &[i32], from: u32, count: u32, k: u32, text: &mu
     }
 }
 
-// An entry of segment k at its place on the path.
+// An entry of segment k at its place on the path. By `as`, whose numbers the laws of `numbers` read (proofs/Machine).
 fn put_entry(e: Entry, k: u32, text: &mut Text)
     ensures { Gains text.old (entry_line (shifted (2 ^ sheet_finest * k) e)) text.new }
 {

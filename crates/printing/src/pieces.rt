@@ -12,7 +12,7 @@ use crate::lines::{path_line, put_entries};
 use listing_text::Place;
 use path::{Shape, Totals};
 use rules::{COORDINATES, Limits, Refusal, SHEET_FINEST};
-use sheet::{PathAt, number_at};
+use sheet::PathAt;
 use text::Text;
 
 // Of a refused path nothing is counted.
@@ -41,7 +41,7 @@ pub(crate) fn piece_at(numbers: &[i32], place: Place, list: &mut [i32], text: &m
     next_place(path, place)
 }
 
-// The path's line before its first segment, nothing before the others.
+// The path's line before its first segment, nothing before the others. `place` says where the path is too: the definitions are of places.
 #[tactic(auto, using(crate::proofs::Reach::path_read, crate::proofs::Counted::line_told, text::proofs::Pieces::gains_none))]
 fn put_heading(path: PathAt, place: Place, text: &mut Text)
     requires { (place.at ≡ path.at) × (text.old.at ≤ length text.old.bytes.now) }
@@ -129,8 +129,5 @@ fn shape_of(path: PathAt) -> Shape
 fn limits_of(numbers: &[i32]) -> Limits
     ensures { result ≡ limits_of (sheet_of numbers.now) }
 {
-    Limits {
-        upper: number_at(numbers, 1),
-        lower: number_at(numbers, 2),
-    }
+    sheet::limits(numbers)
 }

@@ -29,7 +29,7 @@ pub fn read(sheet: &[u8], numbers: &mut [i32]) -> Result<u32, Refusal>
     Ok(count as u32)
 }
 
-// ---- its refusals
+// ---- its refusals; writing's are by the same rules, in another order and of numbers in place of bytes
 
 #[tactic(auto, unfolding(sheet::specs::Reading::sheet_refusal))]
 fn check_sheet(sheet: &[u8]) -> Result<(), Refusal>
@@ -108,6 +108,7 @@ fn check_body(sheet: &[u8], at: usize) -> Result<(), Refusal>
         return Err(Refusal::CutRecord);
     }
     let n = record.point_numbers();
+    // Fixed memory: as many as there are go on at once.
     let mut points = [0i32; rules::MOST_POINT_NUMBERS];
     take_values(sheet, at + RECORD_HEAD, n, &mut points, 0);
     rules::check_points(rules::reach(marked.degree, SHEET_FINEST), &points[..n])
@@ -115,7 +116,8 @@ fn check_body(sheet: &[u8], at: usize) -> Result<(), Refusal>
 
 // ---- the head of a record
 
-// A record of a sheet whose segments and mark are there: its bytes start at byte `at`.
+// A record of a sheet whose segments and mark are there: its bytes start at byte `at`. (A path of a number list is read from numbers, by
+// definitions of its own: `PathAt` of sheet.)
 #[derive(Clone, Copy)]
 struct RecordAt<'a> {
     sheet: &'a [u8],

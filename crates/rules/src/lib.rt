@@ -1,4 +1,4 @@
-// The rules that every room shares: refusals 1 to 4, 14 and 24, as tests of any numbers.
+// The rules that every room shares: why an entry refuses, and refusals 1 to 4, 14 and 24 as tests of any numbers.
 #![tactic(auto)]
 
 mod refused;
@@ -110,13 +110,12 @@ pub fn reach(degree: Degree, f: u32) -> u32
     ((1 << f) - 2) / degree.number()
 }
 
-// 2 where it fails. Any two numbers may be asked: their difference is taken in 64 bits.
+// 2 where it fails. Any two numbers may be asked.
+#[tactic(auto, unfolding(crate::specs::Rules::are_neighbours))]
 pub fn neighbours(reach: u32, p: i32, q: i32) -> bool
     ensures { result ≡ are_neighbours reach p q }
 {
-    let apart = (q as i64) - (p as i64);
-    let most = reach as i64;
-    (-most <= apart) & (apart <= most)
+    q.abs_diff(p) <= reach
 }
 
 // 3 where it fails.
@@ -192,7 +191,7 @@ pub fn check_points(reach: u32, numbers: &[i32]) -> Result<(), Refusal>
     Ok(())
 }
 
-// A count, a limit, segments or a mark of a number list; one below 0 is larger than any rule allows.
+// A count, a limit, segments or a mark of a number list; one below 0 is larger than any rule allows. No `Option`: README names the number.
 pub fn natural(z: i32) -> u32
     ensures { result ≡ natural z }
 {

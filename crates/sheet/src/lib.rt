@@ -6,7 +6,7 @@ mod list;
 ghost use Rattle.std.specs.Prelude.{◌≡◌};
 ghost use Rattle.sheet.specs.Sheet.{head_size};
 
-pub use list::{PathAt, number_at};
+pub use list::{PathAt, limits, number_at};
 
 // A sheet has at most so many paths, and from LEAST_BYTES, the count and the limits, to MOST_BYTES bytes; MOST_NUMBERS numbers have room for
 // every sheet's number list.

@@ -3,16 +3,27 @@ ghost use Rattle.std.specs.Prelude.{◌≡◌, ◌^◌, ◌≤◌, ◌<◌, leng
 ghost use Rattle.sheet.specs.NumberList.{number_at, path_mark, path_point_numbers, path_at, path_end};
 
 use crate::PATH_HEAD;
-use rules::Marked;
+use rules::{Limits, Marked};
 
-// A count, a limit, segments or a mark: number i of a list, 0 past its end.
+// A count, a limit, segments or a mark: number i of a list. No `Option`: the definition has 0 past the end.
 pub fn number_at(numbers: &[i32], i: usize) -> u32
     ensures { result ≡ number_at numbers.now i }
 {
     numbers.get(i).map_or(0, |&z| rules::natural(z))
 }
 
-// A path of a number list: its numbers start at number `at`.
+// The limits of a number list.
+pub fn limits(numbers: &[i32]) -> Limits
+    ensures { result ≡ record { upper = number_at numbers.now 1; lower = number_at numbers.now 2 } }
+{
+    Limits {
+        upper: number_at(numbers, 1),
+        lower: number_at(numbers, 2),
+    }
+}
+
+// A path of a number list: its numbers start at number `at`. (A record of a sheet is read from bytes, by definitions of its own: `RecordAt` of
+// reading.)
 #[derive(Clone, Copy)]
 pub struct PathAt<'a> {
     pub numbers: &'a [i32],

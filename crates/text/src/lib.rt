@@ -6,7 +6,8 @@ ghost use Rattle.std.specs.Prelude.{◌≡◌, take};
 ghost use Rattle.text.specs.Decimal.{decimal, numeral};
 ghost use Rattle.text.specs.Reached.{Gains};
 
-// A lent buffer, filled up to place `at`. A piece is put from there on, as far as the buffer reaches.
+// A lent buffer, filled up to place `at`. A piece is put from there on, as far as the buffer reaches. No invariant holds `at` inside: past the
+// end nothing is put, and the end is the place then.
 #[derive(Drop)]
 pub struct Text<'a> {
     pub bytes: &'a mut [u8],

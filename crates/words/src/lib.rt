@@ -1,4 +1,4 @@
-// Numbers and their 32-bit words, for programs that take and print them.
+// Numbers and their 32-bit words, for programs that take and print them. Each is a method of the library; README names them, and so they stay.
 #![tactic(auto)]
 
 ghost use Rattle.std.specs.Prelude.{◌≡◌, nat_abs};

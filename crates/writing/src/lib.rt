@@ -11,7 +11,7 @@ ghost use Rattle.sheet.specs.NumberList.{paths_at, sheet_of};
 ghost use Rattle.sheet.specs.Writing.{path_refusal, paths_refusal, Parted, list_refusal};
 ghost use Rattle.sheet.specs.Answer.{answered, write_answer, bytes_written};
 
-use rules::{Limits, Refusal, SHEET_FINEST};
+use rules::{Refusal, SHEET_FINEST};
 use sheet::{
     LIST_HEAD, MOST_BYTES, MOST_PATHS, PATH_HEAD, PathAt, RECORD_HEAD, VALUE_SIZE, head_size,
     number_at,
@@ -33,7 +33,7 @@ pub fn write(numbers: &[i32], sheet: &mut [u8]) -> Result<u32, Refusal>
     Ok(count as u32)
 }
 
-// ---- its refusals
+// ---- its refusals; reading's are by the same rules, in another order and of bytes in place of numbers
 
 #[tactic(auto, unfolding(sheet::specs::Writing::list_refusal))]
 fn check_list(numbers: &[i32]) -> Result<(), Refusal>
@@ -46,11 +46,7 @@ fn check_list(numbers: &[i32]) -> Result<(), Refusal>
     if MOST_PATHS < paths {
         return Err(Refusal::PathCount);
     }
-    let limits = Limits {
-        upper: number_at(numbers, 1),
-        lower: number_at(numbers, 2),
-    };
-    if !limits.lawful() {
+    if !sheet::limits(numbers).lawful() {
         return Err(Refusal::Limits);
     }
     check_paths(numbers, paths)?;
@@ -150,7 +146,7 @@ fn put_values(values: &[i32], sheet: &mut [u8], p: usize)
     }
 }
 
-// ---- numbers in bytes
+// ---- numbers in bytes, each width by its own definition, `le32` and `le16`
 
 #[tactic(auto, using(crate::proofs::Bytes::copied_as, crate::proofs::Bytes::bytes_32))]
 fn put_u32(sheet: &mut [u8], at: usize, n: u32)
