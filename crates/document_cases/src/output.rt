@@ -8,12 +8,10 @@ use std::fmt;
 pub(crate) struct Output(pub(crate) i32);
 
 impl fmt::Write for Output {
+    // A write that the stream does not take is passed over: the program goes on, and says nothing.
     fn write_str(&mut self, s: &str) -> fmt::Result {
-        if io::write_all(self.0, s.as_bytes()) {
-            Ok(())
-        } else {
-            Err(fmt::Error)
-        }
+        io::write_all(self.0, s.as_bytes());
+        Ok(())
     }
 }
 
@@ -21,7 +19,7 @@ impl fmt::Write for Output {
 pub(crate) enum Fault {
     // a case is refused that the document draws
     Refused(Refusal),
-    // the output was not taken
+    // the form of `?` on a fmt::Result: no write to an Output gives it
     Output,
 }
 

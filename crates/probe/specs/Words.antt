@@ -1,4 +1,4 @@
--- What stands in a request: words in its bytes, and in its words unsigned numbers, control points, drawings, degrees, shapes and limits.
+-- What stands in a request's words: signed and unsigned numbers, control points, registers, drawings, degrees, shapes and limits.
 use Rattle.std.specs.Prelude.{cond, List, ℕ, ◌+◌, ◌*◌, eqb, ℤ, pos, get_or, Option, Some, None}
 use Rattle.std.specs.Int.{w32}
 use Rattle.std.proofs.Common.{of_z}

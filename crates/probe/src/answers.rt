@@ -10,7 +10,7 @@ use rules::Refusal;
 use text::Text;
 
 // The most places that a request asks for.
-const MOST_ROOM: usize = 16384;
+pub(crate) const MOST_ROOM: usize = 16384;
 
 // What the lent places hold before a call.
 const NUMBER_BEFORE: i32 = -7;
@@ -21,11 +21,11 @@ const BYTE_BEFORE: u8 = 7;
 pub(crate) fn answer(
     code: u32,
     words: &[i32],
-    bytes: &mut [u8],
-    list: &mut [i32],
+    bytes: &mut [u8; 65600],
+    list: &mut [i32; MOST_ROOM],
     text: &mut Text,
 ) -> Option<()>
-    requires { (length words.now ≤ 16400) × (65600 ≤ length bytes.old) × (16384 ≤ length list.old) }
+    requires { length words.now ≤ 16400 }
 {
     match code {
         1 => answer_start::<Cubic>(words, text),
@@ -107,11 +107,10 @@ type Drawn = Option<Result<Totals, Refusal>>;
 fn answer_draw<F: FnOnce(Shape, &[i32], &mut [i32]) -> Drawn>(
     words: &[i32],
     entry: F,
-    list: &mut [i32],
+    list: &mut [i32; MOST_ROOM],
     text: &mut Text,
 ) -> Option<()>
-    requires callable { F.IsAlwaysCallable entry }
-    requires room { 16384 ≤ length list.old }
+    requires { F.IsAlwaysCallable entry }
 {
     let (room, rest) = room_of(words)?;
     answer_path(rest, entry, &mut list[..room], text)
@@ -155,8 +154,13 @@ fn measure_standard(shape: Shape, points: &[i32], _list: &mut [i32]) -> Drawn {
 
 // ---- the sheet
 
-fn answer_read(words: &[i32], bytes: &mut [u8], list: &mut [i32], text: &mut Text) -> Option<()>
-    requires { (length words.now ≤ 16400) × (65600 ≤ length bytes.old) × (16384 ≤ length list.old) }
+fn answer_read(
+    words: &[i32],
+    bytes: &mut [u8; 65600],
+    list: &mut [i32; MOST_ROOM],
+    text: &mut Text,
+) -> Option<()>
+    requires { length words.now ≤ 16400 }
 {
     let (room, rest) = room_of(words)?;
     let sheet = &mut bytes[..rest.len()];
@@ -169,9 +173,7 @@ fn answer_read(words: &[i32], bytes: &mut [u8], list: &mut [i32], text: &mut Tex
     Some(())
 }
 
-fn answer_write(words: &[i32], bytes: &mut [u8], text: &mut Text) -> Option<()>
-    requires { 65600 ≤ length bytes.old }
-{
+fn answer_write(words: &[i32], bytes: &mut [u8; 65600], text: &mut Text) -> Option<()> {
     let (room, rest) = room_of(words)?;
     let sheet = &mut bytes[..room];
     sheet.fill(BYTE_BEFORE);

@@ -8,24 +8,25 @@ use engine::{Curve, Drawing};
 use path::Shape;
 use rules::{COORDINATES, Degree, Limits};
 
-const STDIN_FILENO: i32 = 0;
+pub(crate) const STDIN_FILENO: i32 = 0;
 
-// Fills `words` from standard input, by way of `bytes`; false where the input ends before.
-pub(crate) fn take_words(bytes: &mut [u8], words: &mut [i32]) -> bool
+// Fills `words` from standard input, by way of `bytes`; none where the input ends before.
+pub(crate) fn take_words(bytes: &mut [u8], words: &mut [i32]) -> Option<()>
     requires { 4 * length words.old ≤ length bytes.old }
 {
     let size = 4 * words.len();
     if io::read_full(STDIN_FILENO, &mut bytes[..size]) < size {
-        return false;
+        return None;
     }
     let (fours, _) = bytes.as_chunks::<4>();
     for (word, four) in words.iter_mut().zip(fours) {
         *word = i32::from_le_bytes(*four);
     }
-    true
+    Some(())
 }
 
 // One coordinate of the control points of a segment, which come point by point: x at 0, y at 1, the width at 2.
+// Not a method of `Curve`: that would have to say what is read past the list's end, where nothing is ever read.
 pub(crate) trait Pointed: Curve {
     fn of(points: &[i32], at: usize) -> Self
         requires { at + degree Self.degree * coordinates < length points.now }
@@ -53,7 +54,7 @@ impl Pointed for Quadratic {
     }
 }
 
-// finest level q, then a b c d of x, of y, of the width.
+// finest level q, then a b c d of x, of y, of the width. No `From`: the types on both sides are of other crates.
 pub(crate) fn drawing_of(words: &[i32; 15]) -> Drawing
     ensures { result ≡ drawing_in words.now }
 {

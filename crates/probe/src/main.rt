@@ -24,14 +24,10 @@ mod answers;
 mod input;
 mod output;
 
-ghost use Rattle.std.specs.Prelude.{◌≡◌, ◌≤◌, length};
-
-use answers::answer;
-use input::take_words;
+use answers::{MOST_ROOM, answer};
+use input::{STDIN_FILENO, take_words};
 use output::refuse;
 use text::Text;
-
-const STDIN_FILENO: i32 = 0;
 
 // The most arguments of a request.
 const MOST_WORDS: u32 = 16400;
@@ -40,7 +36,7 @@ fn main() {
     // Four bytes for each argument.
     let mut bytes = [0u8; 65600];
     let mut words = [0i32; 16400];
-    let mut list = [0i32; 16384];
+    let mut list = [0i32; MOST_ROOM];
     let mut buffer = io::large_buffer();
     let mut text = Text {
         bytes: &mut buffer,
@@ -50,43 +46,49 @@ fn main() {
 }
 
 // A proved loop has to end, and nothing says that the input does: no run has so many requests.
-fn run(bytes: &mut [u8], words: &mut [i32], list: &mut [i32], text: &mut Text)
-    requires { (65600 ≤ length bytes.old) × (16400 ≤ length words.old) × (16384 ≤ length list.old) }
-{
+fn run(
+    bytes: &mut [u8; 65600],
+    words: &mut [i32; 16400],
+    list: &mut [i32; MOST_ROOM],
+    text: &mut Text,
+) {
     for _ in 0..1_000_000_000_000_u64 {
-        if !request(bytes, words, list, text) {
+        if request(bytes, words, list, text).is_none() {
             return;
         }
     }
 }
 
-// Takes one request and answers it; false where the input has ended. Of a request whose K is out of range no argument is taken.
-fn request(bytes: &mut [u8], words: &mut [i32], list: &mut [i32], text: &mut Text) -> bool
-    requires { (65600 ≤ length bytes.old) × (16400 ≤ length words.old) × (16384 ≤ length list.old) }
-{
+// Takes one request and answers it; none where the input has ended. Of a request whose K is out of range no argument is taken.
+fn request(
+    bytes: &mut [u8; 65600],
+    words: &mut [i32; 16400],
+    list: &mut [i32; MOST_ROOM],
+    text: &mut Text,
+) -> Option<()> {
     let mut head = [0u8; 8];
     let got = io::read_full(STDIN_FILENO, &mut head);
     if got == 0 {
-        return false;
+        return None;
     }
     if got < 8 {
         refuse();
-        return false;
+        return None;
     }
     let [c0, c1, c2, c3, k0, k1, k2, k3] = head;
     let code = u32::from_le_bytes([c0, c1, c2, c3]);
     let count = u32::from_le_bytes([k0, k1, k2, k3]);
     if MOST_WORDS < count {
         refuse();
-        return true;
+        return Some(());
     }
-    let size = count as usize;
-    if !take_words(bytes, &mut words[..size]) {
+    let words = &mut words[..count as usize];
+    if take_words(bytes, words).is_none() {
         refuse();
-        return false;
+        return None;
     }
-    if answer(code, &words[..size], bytes, list, text).is_none() {
+    if answer(code, words, bytes, list, text).is_none() {
         refuse();
     }
-    true
+    Some(())
 }

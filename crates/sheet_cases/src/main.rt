@@ -8,10 +8,9 @@ ghost use Rattle.std.specs.Prelude.{◌≤◌, IfSome};
 use rules::Refusal;
 use text::Text;
 
-// The descriptors of the standard input and output.
-const STDIN: i32 = 0;
+const STDIN_FILENO: i32 = 0;
 
-const STDOUT: i32 = 1;
+const STDOUT_FILENO: i32 = 1;
 
 // A sheet, a number list and each lent buffer have at most so many places.
 const MOST: usize = 33000;
@@ -38,6 +37,7 @@ fn request() -> Option<()> {
     let code = word()?;
     let room = size()?;
     let size = size()?;
+    // A code is a number of the input, and is read here alone.
     match code {
         1 => read_request(room, size),
         _ => write_request(room, size),
@@ -52,7 +52,7 @@ fn read_request(room: usize, size: usize)
     let mut numbers = [NUMBER_BEFORE; MOST];
     let sheet = &mut bytes[..size];
     let list = &mut numbers[..room];
-    io::read_full(STDIN, sheet);
+    io::read_full(STDIN_FILENO, sheet);
     let answer = reading::read(sheet, list);
     print_line(answer, list);
 }
@@ -73,7 +73,7 @@ fn write_request(room: usize, size: usize)
 
 fn word() -> Option<u32> {
     let mut bytes = [0u8; 4];
-    if io::read_full(STDIN, &mut bytes) < 4 {
+    if io::read_full(STDIN_FILENO, &mut bytes) < 4 {
         return None;
     }
     Some(u32::from_le_bytes(bytes))
@@ -93,7 +93,7 @@ fn size() -> Option<usize>
 fn take_numbers(numbers: &mut [i32]) {
     for number in numbers.iter_mut() {
         let mut bytes = [0u8; 4];
-        io::read_full(STDIN, &mut bytes);
+        io::read_full(STDIN_FILENO, &mut bytes);
         *number = i32::from_le_bytes(bytes);
     }
 }
@@ -127,11 +127,9 @@ fn put(text: &mut Text, z: i64) {
     text.put_number(z);
 }
 
-#[tactic(auto, unfolding(text::specs::Reached::reached))]
 fn end_line(text: &mut Text) {
     text.put(b"\n");
-    let end = text.at;
-    io::write_all(STDOUT, &text.bytes[..end]);
+    io::write_all(STDOUT_FILENO, text.filled());
 }
 
 fn check_sum<N: Copy + Into<i32>>(values: &[N]) -> u32 {
