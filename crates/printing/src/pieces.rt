@@ -68,7 +68,7 @@ fn draw_segment(path: PathAt, k: u32, list: &mut [i32]) -> Result<Totals, Refusa
     )
 }
 
-// Draws segment k of a path.
+// Draws segment k of a path: its points, shape and limits are read one by one, and `segment_part` speaks of each.
 #[tactic(auto, using(crate::proofs::Reach::segment_part))]
 fn draw_alone(
     points: &[i32],

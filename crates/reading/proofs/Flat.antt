@@ -3,9 +3,11 @@ use mathlib.Core.Path.{◌≡◌, ap, ap₂, ◌∙◌}
 use mathlib.Core.List.{List, ◌∷◌, ◌++◌}
 use Prim.Native.Nat.{ℕ, zero, suc, ◌+◌, ◌-◌, ◌*◌, ◌/◌}
 use native.Mathlib.Nat.{zero-add, add-zero}
+use native.Mathlib.Numerals.{add-one}
 use native.Mathlib.Omega.{arith}
 use lib.IntN.{ℤ, pos}
-use lib.ListN.{length}
+use lib.ListN.{length, set}
+use Rattle.numbers.proofs.Buffers.{Ahead}
 use Rattle.rules.proofs.Marks.{marked_back}
 use Rattle.rules.proofs.Refusals.{first_kept}
 use Rattle.sheet.specs.Bytes.{value_size, u16_at, u32_at, i16_at, values_at}
@@ -58,3 +60,8 @@ numbers_flat b e =
 
 pub numbers_count : (b : List ℕ) → sheet_refusal b ≡ 0 → length (sheet_numbers (sheet_at b)) ≡ list_head + (length b - head_size (u32_at b 0)) / value_size
 numbers_count b e = ap length (numbers_flat b e) ∙ omega (arith, values_length b (head_size (u32_at b 0)) ((length b - head_size (u32_at b 0)) / value_size))
+
+-- ---- a list that a loop fills, one value at a turn: what is to come stays what was to come
+
+pub stored_one : {A : Type 0} {l k : List A} {n m : ℕ} {x : A} {rest all : List A} → Ahead l n (x ∷ rest) k m all → Ahead (set l n x) (n + 1) rest k m all
+stored_one {n = n} a = record { count = omega (arith, a.count); list = rw (add-one n) a.list }

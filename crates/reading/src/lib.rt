@@ -1,4 +1,4 @@
-// Reading a sheet: its number list, from its bytes.
+// Reading a sheet: its number list, from its bytes. By `as` where the number is shown to fit, and to `usize`, which has no `From<u32>`.
 #![tactic(auto)]
 
 ghost use Rattle.std.specs.Prelude.{◌≡◌, ◌+◌, ◌*◌, ◌^◌, ◌≤◌, ◌<◌, length};

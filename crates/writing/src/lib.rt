@@ -1,4 +1,4 @@
-// Writing a sheet: its bytes, from its number list.
+// Writing a sheet: its bytes, from its number list. By `as` where the number is shown to fit, and to `usize`, which has no `From<u32>`.
 #![tactic(auto)]
 
 ghost use Rattle.std.specs.Prelude.{◌≡◌, ◌+◌, ◌*◌, ◌≤◌, length};
