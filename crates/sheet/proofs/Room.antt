@@ -8,6 +8,7 @@ use lib.ListN.{length, take, drop}
 use lib.Seq.{take-append_seam}
 use Rattle.std.specs.Prelude.{Result, Ok, Err}
 use Rattle.rules.specs.declared.refused.Refusal.{Refusal}
+use Rattle.rules.specs.Numbered.{number}
 use Rattle.rules.specs.Refusals.{unless, first_of, refusal_or, filled}
 use Rattle.rules.proofs.Numbered.{number_positive, number_determines}
 use Rattle.rules.proofs.Refusals.{rule_kept, first_kept, first_stop, refuses, number_answered}
@@ -21,6 +22,13 @@ answered_determines (Ok m) (Ok n) e = ap (λ (w : Written). Ok w.count) e
 answered_determines (Ok _) (Err s) e = absurd (number_positive s (sym (ap (λ (w : Written). w.refusal) e)))
 answered_determines (Err r) (Ok _) e = absurd (number_positive r (ap (λ (w : Written). w.refusal) e))
 answered_determines (Err r) (Err s) e = ap Err (number_determines r s (ap (λ (w : Written). w.refusal) e))
+
+-- the count is the count, and a refusal says its number, with count 0
+pub count_says : (n : ℕ) → ((answered (Ok n)).refusal ≡ 0) × ((answered (Ok n)).count ≡ n)
+count_says n = (refl, refl)
+
+pub refusal_says : (r : Refusal) → ((answered (Err r)).refusal ≡ number r) × ((answered (Err r)).count ≡ 0)
+refusal_says r = (refl, refl)
 
 -- ---- by the refusal
 
