@@ -1,15 +1,60 @@
--- Rules 1 and 2 over the points of a whole path: what they say of every number.
-use mathlib.Core.Path.{◌≡◌, refl, ap₂}
-use mathlib.Core.Bool.{true, ◌&&◌}
+-- Rules 1 and 2 over the points of a whole path: a number at a time, as the loops of the tests go, and what they say of every number.
+use mathlib.Core.Path.{◌≡◌, refl, sym, ap, ap₂, ◌∙◌}
+use mathlib.Core.Bool.{Bool, true, false, ◌&&◌}
 use mathlib.Core.List.{List, [], ◌∷◌}
-use Prim.Native.Nat.{ℕ, zero, suc, ◌+◌, ◌<◌}
+use Prim.Native.Nat.{ℕ, zero, suc, ◌+◌, ◌<◌, ◌≤◌}
 use native.Mathlib.Nat.{le_of_suc-le-suc, not-suc-le-zero, zero-lt-suc}
+use native.Mathlib.Numerals.{add-one}
 use native.Mathlib.Omega.{arith}
 use lib.IntN.{ℤ, pos}
-use lib.ListN.{length, get_or, drop, length-drop}
-use lib.Seq.{get_or-drop}
+use lib.ListN.{length, get_or, drop, length-drop, drop_of_length-le}
+use lib.Seq.{drop-cons, get_or-drop}
 use Rattle.numbers.proofs.Tests.{and_true}
 use Rattle.rules.specs.Rules.{is_coordinate, are_neighbours, coordinates, are_points, are_beside, are_chained}
+
+-- ---- a number at a time
+
+-- the number at i decides, or else those after it
+module _ (l : List ℤ) (i : ℕ) (h : i < length l) where
+  points_head : are_points (drop i l) ≡ (is_coordinate (get_or l i (pos 0)) && are_points (drop (suc i) l))
+  unfolding are_points
+  points_head = ap are_points (drop-cons l i (pos 0) h)
+
+  pub points_stop : is_coordinate (get_or l i (pos 0)) ≡ false → are_points (drop i l) ≡ false
+  points_stop e = points_head ∙ ap (λ (b : Bool). b && are_points (drop (suc i) l)) e
+
+  pub points_on : is_coordinate (get_or l i (pos 0)) ≡ true → are_points (drop (i + 1) l) ≡ are_points (drop i l)
+  points_on e =
+      ap (λ (k : ℕ). are_points (drop k l)) (add-one i)
+      ∙ sym (points_head ∙ ap (λ (b : Bool). b && are_points (drop (suc i) l)) e)
+
+pub points_end : (l : List ℤ) (i : ℕ) → length l ≤ i → are_points (drop i l) ≡ true
+unfolding are_points
+points_end l i h = ap are_points (drop_of_length-le l h)
+
+-- so do the numbers at i and at j, which stand beside each other
+module _ (W : ℕ) (l l' : List ℤ) (i j : ℕ) (h : i < length l) (k : j < length l') where
+  beside_head : are_beside W (drop i l) (drop j l') ≡ (are_neighbours W (get_or l i (pos 0)) (get_or l' j (pos 0)) && are_beside W (drop (suc i) l) (drop (suc j) l'))
+  unfolding are_beside
+  beside_head = ap₂ (are_beside W) (drop-cons l i (pos 0) h) (drop-cons l' j (pos 0) k)
+
+  pub beside_stop : are_neighbours W (get_or l i (pos 0)) (get_or l' j (pos 0)) ≡ false → are_beside W (drop i l) (drop j l') ≡ false
+  beside_stop e = beside_head ∙ ap (λ (b : Bool). b && are_beside W (drop (suc i) l) (drop (suc j) l')) e
+
+  pub beside_on : are_neighbours W (get_or l i (pos 0)) (get_or l' j (pos 0)) ≡ true → are_beside W (drop (i + 1) l) (drop (j + 1) l') ≡ are_beside W (drop i l) (drop j l')
+  beside_on e =
+      ap₂ (λ (m n : ℕ). are_beside W (drop m l) (drop n l')) (add-one i) (add-one j)
+      ∙ sym (beside_head ∙ ap (λ (b : Bool). b && are_beside W (drop (suc i) l) (drop (suc j) l')) e)
+
+pub beside_end : (W : ℕ) (l l' : List ℤ) (j : ℕ) → length l' ≤ j → are_beside W l (drop j l') ≡ true
+unfolding are_beside
+beside_end W l l' j h = ap (are_beside W l) (drop_of_length-le l' h) ∙ alone l
+  where
+    alone : (l : List ℤ) → are_beside W l [] ≡ true
+    alone [] = refl
+    alone (p ∷ l) = refl
+
+-- ---- every number
 
 pub points_hold : (l : List ℤ) → are_points l ≡ true → (i : ℕ) → i < length l → is_coordinate (get_or l i (pos 0)) ≡ true
 unfolding are_points

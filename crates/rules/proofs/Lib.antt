@@ -7,4 +7,4 @@ pub mod Marks
 pub mod Order
 pub mod Cases
 pub mod Every
-mod Decided
+pub mod Decided

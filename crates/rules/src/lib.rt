@@ -162,20 +162,28 @@ pub fn check_head(finest: u32, count: u32, n: u32) -> Result<(), Refusal>
     Ok(())
 }
 
-// 1 over a whole path's points where it fails.
+// 1 over a whole path's points where it fails. By an index, here and below: of an array the compiler tests four numbers a turn so, and one by `all`.
 pub fn points(numbers: &[i32]) -> bool
     ensures { result ≡ are_points numbers.now }
 {
-    numbers.iter().all(|&p| coordinate(p))
+    for i in 0..numbers.len() {
+        if !coordinate(numbers[i]) {
+            return false;
+        }
+    }
+    true
 }
 
 // 2 over a whole path's points where it fails: each number and the same coordinate of the next point.
 pub fn chained(reach: u32, numbers: &[i32]) -> bool
     ensures { result ≡ are_chained reach numbers.now }
 {
-    numbers
-        .windows(COORDINATES + 1)
-        .all(|w| neighbours(reach, w[0], w[COORDINATES]))
+    for j in COORDINATES..numbers.len() {
+        if !neighbours(reach, numbers[j - COORDINATES], numbers[j]) {
+            return false;
+        }
+    }
+    true
 }
 
 // A whole path's points: refuses 1, 2.
