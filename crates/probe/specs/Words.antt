@@ -1,4 +1,5 @@
--- What stands in a request's words: signed and unsigned numbers, control points, registers, drawings, degrees, shapes and limits.
+-- What stands in a request: words in its bytes, and in its words signed and unsigned numbers, control points, registers, drawings, degrees, shapes and
+-- limits.
 use Rattle.std.specs.Prelude.{cond, List, ℕ, ◌+◌, ◌*◌, eqb, ℤ, pos, get_or, Option, Some, None}
 use Rattle.std.specs.Int.{w32}
 use Rattle.std.proofs.Common.{of_z}
@@ -10,6 +11,10 @@ use Rattle.coordinate.specs.Control.{Control}
 use Rattle.coordinate.specs.declared.Registers.{Registers}
 use Rattle.engine.specs.declared.Drawing.{Drawing}
 use Rattle.path.specs.declared.Shape.{Shape}
+
+abbrev pub word_at : List ℕ → ℕ → ℕ
+word_at bytes at =
+    get_or bytes at 0 + 256 * get_or bytes (at + 1) 0 + 65536 * get_or bytes (at + 2) 0 + 16777216 * get_or bytes (at + 3) 0
 
 abbrev pub signed_at : List ℤ → ℕ → ℤ
 signed_at words at = get_or words at (pos 0)

@@ -126,16 +126,16 @@ fn answer_path<F: FnOnce(Shape, &[i32], &mut [i32]) -> Drawn>(
     requires { F.IsAlwaysCallable entry }
 {
     let (shape, rest) = words.split_first_chunk()?;
-    let shape = shape_of(shape)?;
-    list.fill(NUMBER_BEFORE);
-    put_drawn(text, entry(shape, rest, list)?);
+    put_drawn(text, entry(shape_of(shape)?, rest, list)?);
     put_list(text, list);
     end_line(text);
     Some(())
 }
 
+// The places are filled once it is known that the limits are there.
 fn draw(shape: Shape, words: &[i32], list: &mut [i32]) -> Drawn {
     let (limits, points) = words.split_first_chunk()?;
+    list.fill(NUMBER_BEFORE);
     Some(drawer::draw(points, shape, limits_of(limits), list))
 }
 
@@ -145,6 +145,7 @@ fn measure(shape: Shape, words: &[i32], _list: &mut [i32]) -> Drawn {
 }
 
 fn draw_standard(shape: Shape, points: &[i32], list: &mut [i32]) -> Drawn {
+    list.fill(NUMBER_BEFORE);
     Some(drawer::draw_standard(points, shape, list))
 }
 

@@ -1,7 +1,7 @@
 // Words of standard input, and what a request's words stand for.
 ghost use Rattle.std.specs.Prelude.{◌≡◌, ◌+◌, ◌*◌, ◌≤◌, ◌<◌, length};
 ghost use Rattle.rules.specs.Rules.{coordinates, degree};
-ghost use Rattle.probe.specs.Words.{control_at, registers_at, drawing_in, degree_of, shape_in, limits_in};
+ghost use Rattle.probe.specs.Words.{word_at, control_at, registers_at, drawing_in, degree_of, shape_in, limits_in};
 
 use coordinate::{Cubic, Quadratic, Registers};
 use engine::{Curve, Drawing};
@@ -20,9 +20,16 @@ pub(crate) fn take_words(bytes: &mut [u8], words: &mut [i32]) -> Option<()>
     }
     let (fours, _) = bytes.as_chunks::<4>();
     for (word, four) in words.iter_mut().zip(fours) {
-        *word = i32::from_le_bytes(*four);
+        *word = word_of(*four).cast_signed();
     }
     Some(())
+}
+
+// The word that four bytes hold, the lowest byte first.
+pub(crate) fn word_of(four: [u8; 4]) -> u32
+    ensures { result ≡ word_at four 0 }
+{
+    u32::from_le_bytes(four)
 }
 
 // One coordinate of the control points of a segment, which come point by point: x at 0, y at 1, the width at 2.

@@ -25,7 +25,7 @@ mod input;
 mod output;
 
 use answers::{MOST_ROOM, answer};
-use input::{STDIN_FILENO, take_words};
+use input::{STDIN_FILENO, take_words, word_of};
 use output::refuse;
 use text::Text;
 
@@ -76,8 +76,8 @@ fn request(
         return None;
     }
     let [c0, c1, c2, c3, k0, k1, k2, k3] = head;
-    let code = u32::from_le_bytes([c0, c1, c2, c3]);
-    let count = u32::from_le_bytes([k0, k1, k2, k3]);
+    let code = word_of([c0, c1, c2, c3]);
+    let count = word_of([k0, k1, k2, k3]);
     if MOST_WORDS < count {
         refuse();
         return Some(());
