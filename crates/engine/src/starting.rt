@@ -94,23 +94,23 @@ fn check_begin(finest: u32, inside: bool, near: bool, level: u32) -> Result<Plac
     })
 }
 
-// The coefficients are small: every register fits 32 bits.
+// The coefficients are small: they and every sum here fit 32 bits.
 fn start_one(f: Coefficients, at: Place) -> Registers
     requires { Mild (curve_of f) }
     ensures { result ≡ start_registers at.level (curve_of f) }
 {
-    let cubic = 65536 * f.a;
-    let square = 65536 * f.b;
-    let linear = 65536 * f.c;
+    let cubic = 65536 * f.a as i32;
+    let square = 65536 * f.b as i32;
+    let linear = 65536 * f.c as i32;
     let a = (6 * cubic) >> at.level;
     let b = a + 2 * square;
     let c = linear + ((square + (cubic >> at.level)) >> at.level);
-    let d = 65536 * f.d;
+    let d = 65536 * f.d as i32;
     Registers {
-        a: a as i32,
-        b: b as i32,
-        c: c as i32,
-        d: d as i32,
+        a: a,
+        b: b,
+        c: c,
+        d: d,
     }
 }
 
