@@ -37,7 +37,7 @@ module _ (D : Degree) (F : ℕ) (points : List ℤ) (level k : ℕ) where
   abbrev p : Coordinate → Control D
   p = controls D points k
 
-  starts_first : (x y width : Control D) → x ≡ p in_x → y ≡ p in_y → width ≡ p in_width → start_refusal D F p level ≡ 0
+  pub starts_first : (x y width : Control D) → x ≡ p in_x → y ≡ p in_y → width ≡ p in_width → start_refusal D F p level ≡ 0
       → started D F (pick x y width) level ≡ record { refusal = 0; drawing = first D F points level k }
   unfolding first
   starts_first x y width ex ey ew e =

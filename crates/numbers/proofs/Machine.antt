@@ -2,7 +2,7 @@
 -- A proof follows its code: a parameter or a field is `field`, what went through a local is `local` or `kept`, and `shift`, `plus`, `minus` and
 -- `times` are the operations. The bounds are numerals that antt computes, so that each condition is `tt`.
 use mathlib.Core.Path.{◌≡◌, refl, sym, ap, ◌∙◌, subst}
-use mathlib.Core.Bool.{false}
+use mathlib.Core.Bool.{true, false}
 use mathlib.Core.List.{List}
 use Prim.Native.Nat.{ℕ, ◌+◌, ◌*◌, ◌%◌, ◌^◌, ◌≤◌, ◌<◌}
 use native.Mathlib.Nat.{lt_of_le_of_lt, le_of_lt, mod-eq_of_lt, one-mul}
@@ -18,7 +18,7 @@ use mir.Facts.{to_z-of_z, sfits_widen}
 use mir.ValLaws.{sfits_le}
 use borrow.Author.Rules.{rules}
 use Rattle.numbers.specs.Tests.{eqbℤ}
-use Rattle.numbers.proofs.Tests.{ne→eqbℤ}
+use Rattle.numbers.proofs.Tests.{eq→eqbℤ, ne→eqbℤ}
 use Rattle.numbers.proofs.Size.{Size, size_of, size_sum, size_difference, size_product, size_by, size_floor, size_shift}
 
 pub record Num (N : ℕ) (z : ℤ) : Type 0 where
@@ -121,7 +121,10 @@ times a b =
 pub power : (k : ℕ) → k ≤ 31 → 1 * 2 ^ k % 4294967296 ≡ 2 ^ k
 power k h = let fits : 2 ^ k ≤ 2147483648 = pow_mono {j = 31} h in mod-eq_of_lt (omega arith) ∙ one-mul (2 ^ k)
 
--- ---- numbers whose bits differ
+-- ---- equal numbers, by their bits
+
+pub same_bits : {w : Width} {x y : ℤ} → SFits w x → SFits w y → of_z w x ≡ of_z w y → eqbℤ x y ≡ true
+same_bits {w} {x} {y} f g e = eq→eqbℤ x y (sym (to_z-of_z f) ∙ ap (to_z w) e ∙ to_z-of_z g)
 
 pub other_bits : (w : Width) (x y : ℤ) → (of_z w x ≡ of_z w y → ⊥) → eqbℤ x y ≡ false
 other_bits w x y h = ne→eqbℤ x y (λ e. h (ap (of_z w) e))

@@ -49,8 +49,8 @@ module _
       pub count_inside : w.count ≤ length after
       count_inside = rw (numbers_are.0, numbers_are.1, length-append) (omega arith)
 
-      pub numbers_accepted : list_refusal (take w.count after) ≡ 0
-      numbers_accepted = rw numbers_taken (writes_back (sheet_at b) right.0).1
+      pub numbers_accepted : (list_refusal (take w.count after) ≡ 0) × (length (take w.count after) ≤ most_numbers)
+      numbers_accepted = rw numbers_taken ((writes_back (sheet_at b) right.0).1, omega (arith, right.2, room))
 
       -- the answer of printing them
       pub accepted_output : {refusal count : ℕ} → (refusal ≡ 0) × (count ≡ length (sheet_text (sheet_of (take w.count after))))

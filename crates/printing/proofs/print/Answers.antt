@@ -40,7 +40,7 @@ slice_bounds-print_paths-end c =
 pub print_paths-requires-clause-accepted : goal.print_paths-requires-clause-accepted
 print_paths-requires-clause-accepted c =
     let r = (goal.at.print_paths-requires-clause-accepted c).After-read in
-    numbers_accepted c.args.sheet.now (bytes r) lent room c.in-Ok.ensures.answer refl c.in-Ok.ensures.list_after
+    (numbers_accepted c.args.sheet.now (bytes r) lent room c.in-Ok.ensures.answer refl c.in-Ok.ensures.list_after).0
 
 pub returns-in-Ok-clause-verdict : goal.returns-in-Ok-clause-verdict
 returns-in-Ok-clause-verdict c =
