@@ -20,16 +20,17 @@ pub(crate) fn take_words(bytes: &mut [u8], words: &mut [i32]) -> Option<()>
     }
     let (fours, _) = bytes.as_chunks::<4>();
     for (word, four) in words.iter_mut().zip(fours) {
-        *word = word_of(*four).cast_signed();
+        *word = word_at(four, 0).cast_signed();
     }
     Some(())
 }
 
-// The word that four bytes hold, the lowest byte first.
-pub(crate) fn word_of(four: [u8; 4]) -> u32
-    ensures { result ≡ word_at four 0 }
+// The word that starts at byte `at`, the lowest byte first.
+pub(crate) fn word_at(bytes: &[u8], at: usize) -> u32
+    requires { at + 4 ≤ length bytes.now }
+    ensures { result ≡ word_at bytes.now at }
 {
-    u32::from_le_bytes(four)
+    u32::from_le_bytes([bytes[at], bytes[at + 1], bytes[at + 2], bytes[at + 3]])
 }
 
 // One coordinate of the control points of a segment, which come point by point: x at 0, y at 1, the width at 2.

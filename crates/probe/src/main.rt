@@ -25,7 +25,7 @@ mod input;
 mod output;
 
 use answers::{MOST_ROOM, answer};
-use input::{STDIN_FILENO, take_words, word_of};
+use input::{STDIN_FILENO, take_words, word_at};
 use output::refuse;
 use text::Text;
 
@@ -75,9 +75,8 @@ fn request(
         refuse();
         return None;
     }
-    let [c0, c1, c2, c3, k0, k1, k2, k3] = head;
-    let code = word_of([c0, c1, c2, c3]);
-    let count = word_of([k0, k1, k2, k3]);
+    let code = word_at(&head, 0);
+    let count = word_at(&head, 4);
     if MOST_WORDS < count {
         refuse();
         return Some(());
