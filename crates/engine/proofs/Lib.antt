@@ -3,7 +3,6 @@ pub mod Fitting
 pub mod Moved
 pub mod Each
 pub mod Answers
-pub mod Sums
 pub mod Accepted
 pub mod Begun
 pub mod Demand1
